@@ -173,7 +173,7 @@ some_story w going = of_turn (turn_from w 0 (starting w) [] nothing_begun (steps
       where
         by : Behind w 0 (starting w) [] nothing_begun (steps_from w.steps w.origin) tu.turn tu.met tu.behind.receive
             → (os : List Outcome) × (ys : List Note) × (protocol_story w os ≡ ys) × (0 < length ys)
-        by (is_over e value small more story) =
+        by (is_over e value small more story any) =
             (tu.met ++ pending value tu.behind.receive ++ more, tu.turn, story, subst (λ (l : List Note). 0 < length l) (append-nil tu.turn) (some_note tu.turn [] tu.whole))
         by (is_paused e quiet size lt s) =
             (tu.met ++ [], tu.turn ++ still_tells w size s.n (with_more [] s.h), s.story [], some_note tu.turn (still_tells w size s.n (with_more [] s.h)) tu.whole)

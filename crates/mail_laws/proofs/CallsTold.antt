@@ -10,11 +10,12 @@ use Rattle.wa_types.specs.declared.values.Value.TheVariants as V
 use Rattle.wa_model.specs.declared.events.End.TheVariants.{NoAnswer, OtherImport, DeviceFault, NoDevice}
 use Rattle.wa_model.specs.Outside.{Call, AnswerLine}
 use Rattle.wa_model.specs.Plan.{Outcome, given, refused}
-use Rattle.world_model.specs.World.{Program, Device, Reply, MeetsLine, is_named, name_at, base_names, import_names, journaled}
+use Rattle.world_model.specs.World.{Program, Device, Reply, MeetsLine, is_named, name_at, base_names, MeetsDevice, import_names, journaled}
 use Rattle.mailbox_device.specs.Mail.{Box, at_box as at_told, is_box as has_name, received as told_received, sent as told_sent, sent_past as told_past}
 use Rattle.mailbox_device.specs.declared.mailbox.Settled.{Settled}
 use Rattle.mail_laws.specs.Mailboxes.{Mailbox, Midst, Meets, MeetsBound, MeetsNamed, MeetsBox, MeetsValues, in_range, IsAwaited, mailed, is_box, at_box, sent, sent_past, receiver, received}
 use Rattle.mail_laws.specs.Told.{Await, Amid, Teller, promise, promised, receive_of, number_of, midst_by, KeepsPromises, NotAmong, IsWaiting, AreSent, NoneAmong, StillWait}
+use Rattle.mail_laws.proofs.KnownCalls.{AtEmpty, Known, KnownValues, known_box, known_by, known_named, told_receiver}
 use Rattle.mail_laws.proofs.OpenMoves.{Tame}
 
 -- ---- how often a program waits, or was sent a value
@@ -96,10 +97,6 @@ keeps_last will (x ∷ xs) ys h = keeps_last will xs ys h.1
 
 -- ---- mailboxes
 
-abbrev told_receiver : ℕ → List ℕ → List Settled
-told_receiver v [] = []
-told_receiver v (j ∷ js) = record { program = j; value = in_range v } ∷ []
-
 at_promised : (will : ℕ → ℕ) (g : Mailbox → Mailbox) (f : Box → Box) (name : List ℕ) (bs : List Box) → ((b : Box) → g (promised will b) ≡ promised will (f b))
     → at_box g name (map (promised will) bs) ≡ map (promised will) (at_told f name bs)
 at_promised will g f name [] same = refl
@@ -149,10 +146,12 @@ pub record Chosen (w : Program) (i : ℕ) (c : Call) (lines : List AnswerLine) (
   pub same : (j : ℕ) → total j m' ≡ total j m
   pub small : AreSmall m.settled → AreSmall m'.settled
   pub tame : Tame o
+  pub known : Known w c lines m o lines' m'
 
 pub record Awaits (w : Program) (i : ℕ) (c : Call) (lines : List AnswerLine) (m : Amid) : Type 0 where
   pub r : Await
   pub meets : (will : ℕ → ℕ) → ((j : ℕ) → will j < 2 ^ 32) → Meets w c.import c.args lines (midst_by will i m) (mailed (Some (V.I32 (will i))) 1) lines (midst_by will i (record m { receive = Some r }))
+  pub known : AtEmpty w c m r
 
 abbrev pub Choice : Program → ℕ → Call → List AnswerLine → Amid → Type 0
 Choice w i c lines m = Chosen w i c lines m ⊎ Awaits w i c lines m
@@ -165,9 +164,20 @@ module _ (w : Program) (i : ℕ) (c : Call) (lines : List AnswerLine) (m : Amid)
   bound = unwrap_or (slice_get w.binds c.import) None
 
   -- what is shared stays
-  alone : (o : Outcome) (lines' : List AnswerLine) → Tame o → ((z : Midst) → Meets w c.import c.args lines z o lines' z) → Choice w i c lines m
-  alone o lines' tame h =
-      inl (record { o = o; lines' = lines'; m' = m; meets = λ will keeps. h (midst_by will i m); none = refl; keeps = λ will keeps. keeps; same = λ j. refl; small = λ s. s; tame = tame })
+  alone : (o : Outcome) (lines' : List AnswerLine) → Tame o → Known w c lines m o lines' m → ((z : Midst) → Meets w c.import c.args lines z o lines' z) → Choice w i c lines m
+  alone o lines' tame known h =
+      inl (record {
+        o = o;
+        lines' = lines';
+        m' = m;
+        meets = λ will keeps. h (midst_by will i m);
+        none = refl;
+        keeps = λ will keeps. keeps;
+        same = λ j. refl;
+        small = λ s. s;
+        tame = tame;
+        known = known;
+      })
 
   meets_by : (b : Option (List ℕ)) → bound ≡ b → (z z' : Midst) (o : Outcome) (lines' : List AnswerLine) → MeetsBound w.source c.import c.args b lines z o lines' z'
       → Meets w c.import c.args lines z o lines' z'
@@ -175,9 +185,10 @@ module _ (w : Program) (i : ℕ) (c : Call) (lines : List AnswerLine) (m : Amid)
 
   by_lines : bound ≡ None → (ls : List AnswerLine) → lines ≡ ls → Choice w i c lines m
   by_lines e [] f =
-      alone (refused (NoAnswer c.import)) [] refl
-      (λ z. meets_by None e z z (refused (NoAnswer c.import)) []
-      (subst (λ (l : List AnswerLine). MeetsLine c.import (name_at (import_names w.source) c.import) l (refused (NoAnswer c.import)) []) (sym f) (refl, refl), refl))
+      let line : MeetsLine c.import (name_at (import_names w.source) c.import) lines (refused (NoAnswer c.import)) [] =
+      subst (λ (l : List AnswerLine). MeetsLine c.import (name_at (import_names w.source) c.import) l (refused (NoAnswer c.import)) []) (sym f) (refl, refl) in
+      alone (refused (NoAnswer c.import)) [] refl (known_by w c lines m None e (refused (NoAnswer c.import)) [] m (line, refl))
+      (λ z. meets_by None e z z (refused (NoAnswer c.import)) [] (line, refl))
   by_lines e (l ∷ ls) f = by_name (same_name l.import (name_at (import_names w.source) c.import)) refl
     where
       name : List ℕ
@@ -186,11 +197,10 @@ module _ (w : Program) (i : ℕ) (c : Call) (lines : List AnswerLine) (m : Amid)
       line : (o : Outcome) (left : List AnswerLine) (b : Bool) → Tame o → same_name l.import (name_at (import_names w.source) c.import) ≡ b
           → MatchBool b ((o ≡ given l.answer) × (left ≡ ls)) ((o ≡ refused (OtherImport c.import l.import)) × (left ≡ l ∷ ls)) → Choice w i c lines m
       line o left b tame q h =
-          alone o left tame (λ z. meets_by None e z z o left (
-            subst (λ (xs : List AnswerLine). MeetsLine c.import (name_at (import_names w.source) c.import) xs o left) (sym f)
-                (subst (λ (y : Bool). MatchBool y ((o ≡ given l.answer) × (left ≡ ls)) ((o ≡ refused (OtherImport c.import l.import)) × (left ≡ l ∷ ls))) (sym q) h),
-            refl,
-          ))
+          let met : MeetsLine c.import (name_at (import_names w.source) c.import) lines o left =
+          subst (λ (xs : List AnswerLine). MeetsLine c.import (name_at (import_names w.source) c.import) xs o left) (sym f)
+          (subst (λ (y : Bool). MatchBool y ((o ≡ given l.answer) × (left ≡ ls)) ((o ≡ refused (OtherImport c.import l.import)) × (left ≡ l ∷ ls))) (sym q) h) in
+          alone o left tame (known_by w c lines m None e o left m (met, refl)) (λ z. meets_by None e z z o left (met, refl))
 
       by_name : (b : Bool) → same_name l.import (name_at (import_names w.source) c.import) ≡ b → Choice w i c lines m
       by_name true q = line (given l.answer) ls true tt q (refl, refl)
@@ -206,9 +216,9 @@ module _ (w : Program) (i : ℕ) (c : Call) (lines : List AnswerLine) (m : Amid)
         meets_by (Some name) e (midst_by will i m) z' o lines
         (subst (λ (q : Option Mailbox). MeetsNamed c.import base name c.args q (midst_by will i m) o z') (sym (find_promised will name m.boxes ∙ ap (option_map (promised will)) f)) h, refl)
 
-    unchanged : (found : Option Box) → find (has_name name) m.boxes ≡ found → (o : Outcome) → Tame o
+    unchanged : (found : Option Box) → find (has_name name) m.boxes ≡ found → (o : Outcome) → Tame o → Known w c lines m o lines m
         → ((will : ℕ → ℕ) → MeetsNamed c.import base name c.args (option_map (promised will) found) (midst_by will i m) o (midst_by will i m)) → Choice w i c lines m
-    unchanged found f o tame h =
+    unchanged found f o tame known h =
         inl (record {
           o = o;
           lines' = lines;
@@ -219,31 +229,28 @@ module _ (w : Program) (i : ℕ) (c : Call) (lines : List AnswerLine) (m : Amid)
           same = λ j. refl;
           small = λ s. s;
           tame = tame;
+          known = known;
         })
 
     by_device : find (has_name name) m.boxes ≡ None → (b : Bool) → list_any (is_named name) m.devices ≡ b → Choice w i c lines m
     by_device f true q =
-        unchanged None f (refused (DeviceFault c.import)) refl (λ will. (
-          m.devices,
-          subst (λ (y : Bool). MatchBool y
-              (((r : Reply) × Rattle.wa_model.specs.Plan.ValueFits r.value × (r.ticks < 2 ^ 32)
-              × (refused (DeviceFault c.import) ≡ given (record { said = Rattle.wa_model.specs.declared.answers.Said.TheVariants.Value r.value; pokes = []; ticks = r.ticks }))
-              × (m.devices ≡ journaled name (record { base = base; args = c.args; reply = r }) m.devices))
-              ⊎ ((refused (DeviceFault c.import) ≡ refused (DeviceFault c.import)) × (m.devices ≡ m.devices)))
-              ((refused (DeviceFault c.import) ≡ refused (NoDevice c.import)) × (m.devices ≡ m.devices))) (sym q) (inr (refl, refl)),
-          refl,
-        ))
+        let met : MeetsDevice c.import base name c.args m.devices (refused (DeviceFault c.import)) m.devices =
+        subst (λ (y : Bool). MatchBool y
+        (((r : Reply) × Rattle.wa_model.specs.Plan.ValueFits r.value × (r.ticks < 2 ^ 32)
+        × (refused (DeviceFault c.import) ≡ given (record { said = Rattle.wa_model.specs.declared.answers.Said.TheVariants.Value r.value; pokes = []; ticks = r.ticks }))
+        × (m.devices ≡ journaled name (record { base = base; args = c.args; reply = r }) m.devices))
+        ⊎ ((refused (DeviceFault c.import) ≡ refused (DeviceFault c.import)) × (m.devices ≡ m.devices)))
+        ((refused (DeviceFault c.import) ≡ refused (NoDevice c.import)) × (m.devices ≡ m.devices))) (sym q) (inr (refl, refl)) in
+        unchanged None f (refused (DeviceFault c.import)) refl (known_named w c lines m name e None f (refused (DeviceFault c.import)) m (m.devices, met, refl)) (λ will. (m.devices, met, refl))
     by_device f false q =
-        unchanged None f (refused (NoDevice c.import)) refl (λ will. (
-          m.devices,
-          subst (λ (y : Bool). MatchBool y
-              (((r : Reply) × Rattle.wa_model.specs.Plan.ValueFits r.value × (r.ticks < 2 ^ 32)
-              × (refused (NoDevice c.import) ≡ given (record { said = Rattle.wa_model.specs.declared.answers.Said.TheVariants.Value r.value; pokes = []; ticks = r.ticks }))
-              × (m.devices ≡ journaled name (record { base = base; args = c.args; reply = r }) m.devices))
-              ⊎ ((refused (NoDevice c.import) ≡ refused (DeviceFault c.import)) × (m.devices ≡ m.devices)))
-              ((refused (NoDevice c.import) ≡ refused (NoDevice c.import)) × (m.devices ≡ m.devices))) (sym q) (refl, refl),
-          refl,
-        ))
+        let met : MeetsDevice c.import base name c.args m.devices (refused (NoDevice c.import)) m.devices =
+        subst (λ (y : Bool). MatchBool y
+        (((r : Reply) × Rattle.wa_model.specs.Plan.ValueFits r.value × (r.ticks < 2 ^ 32)
+        × (refused (NoDevice c.import) ≡ given (record { said = Rattle.wa_model.specs.declared.answers.Said.TheVariants.Value r.value; pokes = []; ticks = r.ticks }))
+        × (m.devices ≡ journaled name (record { base = base; args = c.args; reply = r }) m.devices))
+        ⊎ ((refused (NoDevice c.import) ≡ refused (DeviceFault c.import)) × (m.devices ≡ m.devices)))
+        ((refused (NoDevice c.import) ≡ refused (NoDevice c.import)) × (m.devices ≡ m.devices))) (sym q) (refl, refl) in
+        unchanged None f (refused (NoDevice c.import)) refl (known_named w c lines m name e None f (refused (NoDevice c.import)) m (m.devices, met, refl)) (λ will. (m.devices, met, refl))
 
     module _ (b : Box) (f : find (has_name name) m.boxes ≡ Some b) where
       -- a send
@@ -282,6 +289,7 @@ module _ (w : Program) (i : ℕ) (c : Call) (lines : List AnswerLine) (m : Amid)
             same = same;
             small = λ s. small_on m.settled (told_receiver v b.waits) s (small_receiver v b.waits);
             tame = tt;
+            known = known_box w c lines m name e b f (V.I32 v ∷ []) a (mailed None 0) (after_send v) (refl, refl);
           })
         where
           meets : (will : ℕ → ℕ) → KeepsPromises will (m.settled ++ told_receiver v b.waits) → Meets w c.import c.args lines (midst_by will i m) (mailed None 0) lines (midst_by will i (after_send v))
@@ -315,6 +323,7 @@ module _ (w : Program) (i : ℕ) (c : Call) (lines : List AnswerLine) (m : Amid)
                 (subst (λ (us : List ℕ). MeetsValues c.import name us (midst_by will i m) (mailed (Some (V.I32 (will i))) 1)
                 (midst_by will i (record m { receive = Some (record { import = c.import; box = name }) }))) (sym q)
                 (will i, small i, refl, refl)));
+            known = record { name = name; box = b; bound = e; there = f; args = a; empty = q; is = refl };
           })
       takes a (v ∷ vs) q =
           inl (record {
@@ -327,6 +336,8 @@ module _ (w : Program) (i : ℕ) (c : Call) (lines : List AnswerLine) (m : Amid)
             same = λ j. let t = times_at j 0 (told_received vs) name m.boxes b f (omega arith) in omega (arith, t);
             small = λ s. s;
             tame = tt;
+            known = known_box w c lines m name e b f [] a (mailed (Some (V.I32 (in_range v))) 0) (record m { boxes = at_told (told_received vs) name m.boxes })
+                (subst (λ (us : List ℕ). KnownValues name us m (mailed (Some (V.I32 (in_range v))) 0) (record m { boxes = at_told (told_received vs) name m.boxes })) (sym q) (refl, refl));
           })
         where
           meets : (will : ℕ → ℕ) → KeepsPromises will m.settled
@@ -347,16 +358,16 @@ module _ (w : Program) (i : ℕ) (c : Call) (lines : List AnswerLine) (m : Amid)
               )))
 
       -- another call
-      refuses : (args : List Value) → c.args ≡ args → ((will : ℕ → ℕ) → MeetsBox c.import name args (promised will b) (midst_by will i m) (refused (NoDevice c.import)) (midst_by will i m)) → Choice w i c lines m
-      refuses args a h =
-          unchanged (Some b) f (refused (NoDevice c.import)) refl
+      refuses : (args : List Value) → c.args ≡ args → Known w c lines m (refused (NoDevice c.import)) lines m → ((will : ℕ → ℕ) → MeetsBox c.import name args (promised will b) (midst_by will i m) (refused (NoDevice c.import)) (midst_by will i m)) → Choice w i c lines m
+      refuses args a known h =
+          unchanged (Some b) f (refused (NoDevice c.import)) refl known
           (λ will. subst (λ (xs : List Value). MeetsBox c.import name xs (promised will b) (midst_by will i m) (refused (NoDevice c.import)) (midst_by will i m)) (sym a) (h will))
 
       by_args : (args : List Value) → c.args ≡ args → Choice w i c lines m
       by_args [] a = takes a b.values refl
       by_args (V.I32 v ∷ []) a = sends v a
-      by_args (V.I32 v ∷ y ∷ ys) a = refuses (V.I32 v ∷ y ∷ ys) a (λ will. (refl, refl))
-      by_args (V.I64 v ∷ ys) a = refuses (V.I64 v ∷ ys) a (λ will. (refl, refl))
+      by_args (V.I32 v ∷ y ∷ ys) a = refuses (V.I32 v ∷ y ∷ ys) a (known_box w c lines m name e b f (V.I32 v ∷ y ∷ ys) a (refused (NoDevice c.import)) m (refl, refl)) (λ will. (refl, refl))
+      by_args (V.I64 v ∷ ys) a = refuses (V.I64 v ∷ ys) a (known_box w c lines m name e b f (V.I64 v ∷ ys) a (refused (NoDevice c.import)) m (refl, refl)) (λ will. (refl, refl))
 
     by_found : (found : Option Box) → find (has_name name) m.boxes ≡ found → Choice w i c lines m
     by_found None f = by_device f (list_any (is_named name) m.devices) refl
@@ -405,9 +416,9 @@ module _ (w : Program) (i : ℕ) (c : Call) (lines : List AnswerLine) (m : Amid)
   device_tame called name ds ds' false h = subst Tame (sym h.0) refl
 
   -- what is shared stays, or the devices alone change
-  devices_alone : (ds : List Device) → Tame o → ((will2 : ℕ → ℕ) → Meets w c.import c.args lines (midst_by will2 i m) o lines' (midst_by will2 i (record m { devices = ds })))
+  devices_alone : (ds : List Device) → Tame o → Known w c lines m o lines' (record m { devices = ds }) → ((will2 : ℕ → ℕ) → Meets w c.import c.args lines (midst_by will2 i m) o lines' (midst_by will2 i (record m { devices = ds })))
       → z' ≡ midst_by will i (record m { devices = ds }) → Mirror
-  devices_alone ds tame h is =
+  devices_alone ds tame known h is =
       is_chosen (record {
         o = o;
         lines' = lines';
@@ -418,6 +429,7 @@ module _ (w : Program) (i : ℕ) (c : Call) (lines : List AnswerLine) (m : Amid)
         same = λ j. refl;
         small = λ s. s;
         tame = tame;
+        known = known;
       }) refl refl is keeps
 
   module _ (name : List ℕ) (e : bound w i c lines m ≡ Some name) (same_lines : lines' ≡ lines) where
@@ -425,6 +437,9 @@ module _ (w : Program) (i : ℕ) (c : Call) (lines : List AnswerLine) (m : Amid)
         → MeetsNamed c.import (name_at (base_names w.source) c.import) name c.args (option_map (promised will2) found) (midst_by will2 i m) o z2 → Meets w c.import c.args lines (midst_by will2 i m) o lines' z2
     met_named found f will2 z2 h =
         subst (λ (l : List AnswerLine). Meets w c.import c.args lines (midst_by will2 i m) o l z2) (sym same_lines) (named w i c lines m name e found f will2 o z2 h)
+
+    known_so : (m' : Amid) → Known w c lines m o lines m' → Known w c lines m o lines' m'
+    known_so m' h = subst (λ (l : List AnswerLine). Known w c lines m o l m') (sym same_lines) h
 
     module _ (b : Box) (f : find (has_name name) m.boxes ≡ Some b) where
       abbrev after_it : ℕ → Amid
@@ -464,6 +479,7 @@ module _ (w : Program) (i : ℕ) (c : Call) (lines : List AnswerLine) (m : Amid)
                 omega (arith, s, t);
             small = λ s. small_on m.settled (told_receiver v b.waits) s (small_receiver w i c lines m name e b f v b.waits);
             tame = subst Tame (sym h.1) tt;
+            known = known_so (after_it v) (known_box w c lines m name e b f (V.I32 v ∷ []) a o (after_it v) (h.1, refl));
           }) refl refl (h.2 ∙ send_is will v) (keeps_both will m.settled (told_receiver v b.waits) keeps (kept v b.waits h.0))
 
       received_is : (will2 : ℕ → ℕ) (vs : List ℕ)
@@ -486,6 +502,7 @@ module _ (w : Program) (i : ℕ) (c : Call) (lines : List AnswerLine) (m : Amid)
                 (subst (λ (us : List ℕ). MeetsValues c.import name us (midst_by will2 i m) (mailed (Some (V.I32 (will2 i))) 1)
                 (midst_by will2 i (record m { receive = Some (record { import = c.import; box = name }) }))) (sym q)
                 (will2 i, small i, refl, refl)));
+            known = record { name = name; box = b; bound = e; there = f; args = a; empty = q; is = refl };
           }) h.0 h.1 h.2 same_lines h.3
       received_met a (v ∷ vs) q h =
           is_chosen (record {
@@ -501,28 +518,30 @@ module _ (w : Program) (i : ℕ) (c : Call) (lines : List AnswerLine) (m : Amid)
             same = λ j. let t = times_at j 0 (told_received vs) name m.boxes b f (omega arith) in omega (arith, t);
             small = λ s. s;
             tame = subst Tame (sym h.0) tt;
+            known = known_so (record m { boxes = at_told (told_received vs) name m.boxes }) (known_box w c lines m name e b f [] a o (record m { boxes = at_told (told_received vs) name m.boxes })
+                (subst (λ (us : List ℕ). KnownValues name us m o (record m { boxes = at_told (told_received vs) name m.boxes })) (sym q) (h.0, refl)));
           }) refl refl (h.1 ∙ received_is will vs) keeps
 
-      refused_met : (args : List Value) → Tame o → c.args ≡ args
+      refused_met : (args : List Value) → Tame o → c.args ≡ args → Known w c lines m o lines m
           → ((will2 : ℕ → ℕ) → MeetsBox c.import name args (promised will2 b) (midst_by will2 i m) o (midst_by will2 i m)) → z' ≡ midst_by will i m → Mirror
-      refused_met args tame a h is =
-          devices_alone m.devices tame
+      refused_met args tame a known h is =
+          devices_alone m.devices tame (known_so m known)
           (λ will2. met_named (Some b) f will2 (midst_by will2 i m)
           (subst (λ (xs : List Value). MeetsBox c.import name xs (promised will2 b) (midst_by will2 i m) o (midst_by will2 i m)) (sym a) (h will2))) is
 
       args_met : (args : List Value) → c.args ≡ args → MeetsBox c.import name args (promised will b) (midst_by will i m) o z' → Mirror
       args_met [] a h = received_met a b.values refl h
       args_met (V.I32 v ∷ []) a h = sent_met v a h
-      args_met (V.I32 v ∷ y ∷ ys) a h = refused_met (V.I32 v ∷ y ∷ ys) (subst Tame (sym h.0) refl) a (λ will2. (h.0, refl)) h.1
-      args_met (V.I64 v ∷ ys) a h = refused_met (V.I64 v ∷ ys) (subst Tame (sym h.0) refl) a (λ will2. (h.0, refl)) h.1
+      args_met (V.I32 v ∷ y ∷ ys) a h = refused_met (V.I32 v ∷ y ∷ ys) (subst Tame (sym h.0) refl) a (known_box w c lines m name e b f (V.I32 v ∷ y ∷ ys) a o m (h.0, refl)) (λ will2. (h.0, refl)) h.1
+      args_met (V.I64 v ∷ ys) a h = refused_met (V.I64 v ∷ ys) (subst Tame (sym h.0) refl) a (known_box w c lines m name e b f (V.I64 v ∷ ys) a o m (h.0, refl)) (λ will2. (h.0, refl)) h.1
 
     found_met : (found : Option Box) → find (has_name name) m.boxes ≡ found
         → MeetsNamed c.import (name_at (base_names w.source) c.import) name c.args (option_map (promised will) found) (midst_by will i m) o z' → Mirror
-    found_met None f h = devices_alone h.0 (device_tame (name_at (base_names w.source) c.import) name m.devices h.0 (list_any (is_named name) m.devices) h.1) (λ will2. met_named None f will2 (midst_by will2 i (record m { devices = h.0 })) (h.0, h.1, refl)) h.2
+    found_met None f h = devices_alone h.0 (device_tame (name_at (base_names w.source) c.import) name m.devices h.0 (list_any (is_named name) m.devices) h.1) (known_so (record m { devices = h.0 }) (known_named w c lines m name e None f o (record m { devices = h.0 }) (h.0, h.1, refl))) (λ will2. met_named None f will2 (midst_by will2 i (record m { devices = h.0 })) (h.0, h.1, refl)) h.2
     found_met (Some b) f h = args_met b f c.args refl h
 
   bound_met : (b : Option (List ℕ)) → bound w i c lines m ≡ b → MeetsBound w.source c.import c.args b lines (midst_by will i m) o lines' z' → Mirror
-  bound_met None e h = devices_alone m.devices (line_tame lines h.0) (λ will2. meets_by w i c lines m None e (midst_by will2 i m) (midst_by will2 i m) o lines' (h.0, refl)) h.1
+  bound_met None e h = devices_alone m.devices (line_tame lines h.0) (known_by w c lines m None e o lines' m (h.0, refl)) (λ will2. meets_by w i c lines m None e (midst_by will2 i m) (midst_by will2 i m) o lines' (h.0, refl)) h.1
   bound_met (Some name) e h =
       found_met name e h.1 (find (has_name name) m.boxes) refl
       (subst (λ (q : Option Mailbox). MeetsNamed c.import (name_at (base_names w.source) c.import) name c.args q (midst_by will i m) o z') (find_promised will name m.boxes) h.0)

@@ -158,16 +158,16 @@ settle_out due (s ∷ ss) tellers j out =
     ∙ set_there tellers s.program j (having_got due s.value (unwrap_or (slice_get tellers s.program) no_teller)) out.0
 
 -- who is sent a value waited, and has got it
-record Got (due : ℕ) (tellers : List Teller) (j : ℕ) (t : Teller) : Type 0 where
-  u : Teller
-  r : Await
-  value : ℕ
-  there : slice_get tellers j ≡ Some u
-  unfinished : u.has_ended ≡ false
-  waits : u.receive ≡ Some r
-  is : t ≡ having_got due value u
+pub record Got (due : ℕ) (tellers : List Teller) (j : ℕ) (t : Teller) : Type 0 where
+  pub u : Teller
+  pub r : Await
+  pub value : ℕ
+  pub there : slice_get tellers j ≡ Some u
+  pub unfinished : u.has_ended ≡ false
+  pub waits : u.receive ≡ Some r
+  pub is : t ≡ having_got due value u
 
-settle_at : (due : ℕ) (ss : List Settled) (tellers : List Teller) (j : ℕ) (t : Teller) → AreSent tellers ss → slice_get (settle_all due ss tellers) j ≡ Some t
+pub settle_at : (due : ℕ) (ss : List Settled) (tellers : List Teller) (j : ℕ) (t : Teller) → AreSent tellers ss → slice_get (settle_all due ss tellers) j ≡ Some t
     → (slice_get tellers j ≡ Some t) ⊎ Got due tellers j t
 settle_at due [] tellers j t sent e = inl e
 settle_at due (s ∷ ss) tellers j t sent e = by (cases_eq j s.program) (settle_at due ss (slice_set tellers s.program got) j t (still_sent tellers ss s.program got sent.2 sent.3) e)
@@ -364,19 +364,19 @@ module _ (programs : List Program) (detaches : List Detach) (number : ℕ) (tell
 
     -- what it stands at behind the turn
     pub new_size : (Behind w i t tellers (begun_amid number detaches c) size tu.turn tu.met tu.behind.receive) → ℕ
-    new_size (is_over e value small more story) = 0
+    new_size (is_over e value small more story any) = 0
     new_size (is_paused e none size2 lt st) = suc size2
     new_size (is_parked e r some size2 lt st) = suc size2
 
     smaller : (b : Behind w i t tellers (begun_amid number detaches c) size tu.turn tu.met tu.behind.receive) → new_size b < n
     unfolding new_size
-    smaller (is_over e value small more story) = omega (arith, n_is)
+    smaller (is_over e value small more story any) = omega (arith, n_is)
     smaller (is_paused e none size2 lt st) = omega (arith, n_is, lt)
     smaller (is_parked e r some size2 lt st) = omega (arith, n_is, lt)
 
     told_holds : (b : Behind w i t tellers (begun_amid number detaches c) size tu.turn tu.met tu.behind.receive) → Holds w told (new_size b)
     unfolding new_size
-    told_holds (is_over e value small more story) =
+    told_holds (is_over e value small more story any) =
         has_told e (record {
           value = value;
           small = small;

@@ -46,7 +46,7 @@ module _ (May : Original → Type 0) (Ord : Original → List Outcome → Type 0
       let all_steps : protocol_story (with_steps o.program.steps w) used ≡ protocol_story w used = ap (λ (n : ℕ). protocol_story (with_steps n w) used) (sym st.steps) in
       cuts o w used notes b.0 o.program.steps st may fits (omega arith) ord (all_steps ∙ ap (protocol_story w) (sym (append-nil used)) ∙ b.1) cut
 
-  told_as_far : (o : Original) (w : Program) (a : Actor) (used rest : List Outcome) → StandsIn o w → May o → All OutcomeFits used → met a ≡ used → length used ≡ new_calls a.notes
+  pub told_as_far : (o : Original) (w : Program) (a : Actor) (used rest : List Outcome) → StandsIn o w → May o → All OutcomeFits used → met a ≡ used → length used ≡ new_calls a.notes
       → HeldStory w (used ++ rest) a.notes → RunsAsFar Ord o w a → Told o used a.notes
   told_as_far o w a used rest st may fits is_met len held (to_its_end ord) = story_told o w used rest a.notes st may fits (subst (Ord o) is_met ord) len held
   told_as_far o w a used rest st may fits is_met len held (to_its_receive n more le e cut ord) =
@@ -121,13 +121,13 @@ module _ (May : Original → Type 0) (Ord : Original → List Outcome → Type 0
           let stands : StandsIn o.0 w.0 = w.2 in
           world.ends i w.0 w.1 (ap (over_at w.0.plan.entries) stands.start)
 
-told_plainly : (o : Original) → MayRun o → Plain o
+pub told_plainly : (o : Original) → MayRun o → Plain o
 told_plainly o may = let area = may.fits.area in record { least = area.least; answers = may.answers; looks = may.looks }
 
 pub mail_worlds_of_originals : MailWorldsOfOriginals
 mail_worlds_of_originals = worlds_by MayRun Orderly told_plainly stories_of_originals cut_stories
 
-untold_plainly : (o : Original) → MayRunUntold o → Plain o
+pub untold_plainly : (o : Original) → MayRunUntold o → Plain o
 untold_plainly o may = let area = may.fits.area in record { least = area.least; answers = may.answers; looks = may.looks }
 
 pub mail_worlds_untold : MailWorldsUntold

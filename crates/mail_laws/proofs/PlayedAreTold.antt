@@ -42,7 +42,7 @@ use Rattle.mail_laws.proofs.CalmLines.{Calm, Going, calm_event, going_event, no_
 
 -- ---- promises with one of them changed
 
-set_will : ℕ → ℕ → (ℕ → ℕ) → ℕ → ℕ
+pub set_will : ℕ → ℕ → (ℕ → ℕ) → ℕ → ℕ
 set_will i v will j = pick (cases_eq j i) v (will j)
 
 set_will_here : (i v : ℕ) (will : ℕ → ℕ) → set_will i v will i ≡ v
@@ -76,7 +76,7 @@ boxes_other i v will (b ∷ bs) none =
 -- ---- where programs stand
 
 -- a program of the world, and what is told of it: they are parts of one whole
-record Tied (value : ℕ) (t : Teller) (h : Whole) (a : Actor) : Type 0 where
+pub record Tied (value : ℕ) (t : Teller) (h : Whole) (a : Actor) : Type 0 where
   pub due : a.due ≡ t.due
   pub answers : a.answers ≡ t.answers
   pub notes : t.told ++ a.notes ≡ h.notes
@@ -84,7 +84,7 @@ record Tied (value : ℕ) (t : Teller) (h : Whole) (a : Actor) : Type 0 where
   pub parked : a.parked ≡ parked_of (store_behind t.told) (waits_at t)
   pub over : t.has_ended ≡ true → a.notes ≡ []
 
-record Beside (will : ℕ → ℕ) (wholes : List Whole) (tellers : List Teller) (actors : List Actor) : Type 0 where
+pub record Beside (will : ℕ → ℕ) (wholes : List Whole) (tellers : List Teller) (actors : List Actor) : Type 0 where
   pub wide : length wholes ≡ length tellers
   pub long : length actors ≡ length tellers
   pub each : (i : ℕ) (t : Teller) (h : Whole) (a : Actor) → slice_get tellers i ≡ Some t → slice_get wholes i ≡ Some h → slice_get actors i ≡ Some a → Tied (will i) t h a
@@ -164,7 +164,7 @@ coming w os told ms tale some (to_wait rest e p) f =
 
 -- ---- one event
 
-unready : (v : ℕ) (t : Teller) (h : Whole) (a : Actor) → Tied v t h a → IsReady a → (t.has_ended ≡ false) × (t.receive ≡ None)
+pub unready : (v : ℕ) (t : Teller) (h : Whole) (a : Actor) → Tied v t h a → IsReady a → (t.has_ended ≡ false) × (t.receive ≡ None)
 unready v t h a tie ready = by t.has_ended t.receive refl refl
   where
     by : (b : Bool) (o : Option Await) → t.has_ended ≡ b → t.receive ≡ o → (t.has_ended ≡ false) × (t.receive ≡ None)
@@ -189,8 +189,11 @@ module _ (programs : List Program) (detaches : List Detach) (number : ℕ) (whol
     pub beside' : Beside will' wholes tellers' actors'
     pub shared : sh' ≡ shared_by will' c'
 
-  whole_at : (i : ℕ) (t : Teller) → slice_get tellers i ≡ Some t → (h : Whole) × (slice_get wholes i ≡ Some h)
+  pub whole_at : (i : ℕ) (t : Teller) → slice_get tellers i ≡ Some t → (h : Whole) × (slice_get wholes i ≡ Some h)
   whole_at i t e = item wholes i (omega (arith, slice_get_within tellers i t e, beside.wide))
+
+  pub teller_there : (i : ℕ) (a : Actor) → slice_get actors i ≡ Some a → (t : Teller) × (slice_get tellers i ≡ Some t)
+  teller_there i a e = item tellers i (omega (arith, slice_get_within actors i a e, beside.long))
 
   actor_at : (i : ℕ) (t : Teller) → slice_get tellers i ≡ Some t → (a : Actor) × (slice_get actors i ≡ Some a)
   actor_at i t e = item actors i (omega (arith, slice_get_within tellers i t e, beside.long))
@@ -218,23 +221,17 @@ module _ (programs : List Program) (detaches : List Detach) (number : ℕ) (whol
       (u.0, u.1, same_Some (due_of u.0) (Some tick) (sym (dues_at tellers j u.0 u.1) ∙ e))
 
   module _ (sh : Shared) (is_shared : sh ≡ shared_by will c) (lines : List Line) (actors' : List Actor) (sh' : Shared) where
-    module _ (play : TakesTurn programs detaches number actors sh lines actors' sh') where
-      abbrev t : (t : Teller) × (slice_get tellers play.i ≡ Some t)
-      t = item tellers play.i (omega (arith, slice_get_within actors play.i play.a play.next.there, beside.long))
-
-      abbrev h : (h : Whole) × (slice_get wholes play.i ≡ Some h)
-      h = whole_at play.i t.0 t.1
-
-      tie : Tied (will play.i) t.0 h.0 play.a
+    module _ (play : TakesTurn programs detaches number actors sh lines actors' sh') (t : (t : Teller) × (slice_get tellers play.i ≡ Some t)) (h : (h : Whole) × (slice_get wholes play.i ≡ Some h)) where
+      pub tie : Tied (will play.i) t.0 h.0 play.a
       tie = beside.each play.i t.0 h.0 play.a t.1 h.1 play.next.there
 
-      calm : (t.0.has_ended ≡ false) × (t.0.receive ≡ None)
+      pub calm : (t.0.has_ended ≡ false) × (t.0.receive ≡ None)
       calm = unready (will play.i) t.0 h.0 play.a tie play.next.ready
 
       due_now : due_of t.0 ≡ Some t.0.due
       due_now = λ k. if_going (calm.0 k) (unless_waiting (calm.1 k) t.0.due)
 
-      least : IsLeast (map due_of tellers) play.i t.0.due
+      pub least : IsLeast (map due_of tellers) play.i t.0.due
       least = record {
         there = dues_at tellers play.i t.0 t.1 ∙ ap (λ (o : Option ℕ). Some o) due_now;
         least = λ j tick e.
@@ -253,7 +250,7 @@ module _ (programs : List Program) (detaches : List Detach) (number : ℕ) (whol
           (subst (λ (z : Midst). CallsMeet play.w (turn_of play.a.notes) play.a.outcomes play.a.answers z play.outcomes play.answers play.behind) begun_is play.calls)
 
       -- the story so far, for what its calls will meet
-      outcomes_are : t.0.met ++ play.a.outcomes ≡ h.0.outcomes
+      pub outcomes_are : t.0.met ++ play.a.outcomes ≡ h.0.outcomes
       outcomes_are =
           ap (λ (l : List Outcome). l ++ play.a.outcomes) (sym (append-nil t.0.met)) ∙ ap (λ (o : Option Await). t.0.met ++ pending (will play.i) o ++ play.a.outcomes) (sym calm.1) ∙ tie.outcomes
 
@@ -265,19 +262,19 @@ module _ (programs : List Program) (detaches : List Detach) (number : ℕ) (whol
       post : Rattle.mail_laws.proofs.CallsTold.Posted tellers (begun_amid number detaches c)
       post = posted programs detaches number tellers c sizes all play.i t.0.due least
 
-      abbrev FollowsIt : ℕ → Type 0
+      abbrev pub FollowsIt : ℕ → Type 0
       FollowsIt size = Followed play.w play.i t.0 tellers (begun_amid number detaches c) size will play.outcomes play.answers play.behind [] [] play.a.notes play.a.outcomes
 
-      follows : (size : ℕ) → Knows play.w t.0.met t.0.told size → FollowsIt size
+      pub follows : (size : ℕ) → Knows play.w t.0.met t.0.told size → FollowsIt size
       follows size (it_stands s) =
           let co = coming play.w (t.0.met ++ play.a.outcomes) t.0.told play.a.notes (still_tells play.w size s.n (Rattle.host_laws.specs.Stretch.meeting play.a.outcomes s.h)) play.next.ready.unfinished held
           (s.story play.a.outcomes) in
           follow play.w play.i t.0 tellers (begun_amid number detaches c) size will play.outcomes play.answers play.behind size s.n s.h s.not_over [] [] t.0.answers (begun_amid number detaches c)
-          (record { plain = tt; calls = λ w2 small2 keeps. (refl, refl, refl); none = refl; posted = post }) tt (omega arith) s.story play.a.outcomes play.a.notes co.rest co.is co.cut here
+          (record { plain = tt; calls = λ w2 small2 keeps. (refl, refl, refl); none = refl; known = (refl, refl, refl); posted = post }) tt (omega arith) s.story play.a.outcomes play.a.notes co.rest co.is co.cut here
       follows size (only_ends xs x pl e story) =
           let co = coming play.w (t.0.met ++ play.a.outcomes) t.0.told play.a.notes (xs ++ x ∷ []) play.next.ready.unfinished held (story play.a.outcomes) in
           f_end play.w play.i t.0 tellers (begun_amid number detaches c) size will play.outcomes play.answers play.behind [] [] t.0.answers (begun_amid number detaches c)
-          (record { plain = tt; calls = λ w2 small2 keeps. (refl, refl, refl); none = refl; posted = post }) tt xs x pl e play.a.outcomes (story play.a.outcomes) play.a.notes co.rest co.is co.cut here
+          (record { plain = tt; calls = λ w2 small2 keeps. (refl, refl, refl); none = refl; known = (refl, refl, refl); posted = post }) tt xs x pl e play.a.outcomes (story play.a.outcomes) play.a.notes co.rest co.is co.cut here
 
       module _ (n : ℕ) (sized : slice_get sizes play.i ≡ Some n) (size : ℕ) (n_is : n ≡ suc size)
           (f : Followed play.w play.i t.0 tellers (begun_amid number detaches c) size will play.outcomes play.answers play.behind [] [] play.a.notes play.a.outcomes) where
@@ -290,7 +287,7 @@ module _ (programs : List Program) (detaches : List Detach) (number : ℕ) (whol
         abbrev told1 : Teller
         told1 = having_told t.0 tu.turn tu.met tu.answers tu.behind.receive
 
-        abbrev will1 : ℕ → ℕ
+        abbrev pub will1 : ℕ → ℕ
         will1 = set_will play.i f.value will
 
         abbrev actor1 : Actor
@@ -337,7 +334,7 @@ module _ (programs : List Program) (detaches : List Detach) (number : ℕ) (whol
           over = f.over_is;
         }
 
-        small1 : (j : ℕ) → will1 j < 2 ^ 32
+        pub small1 : (j : ℕ) → will1 j < 2 ^ 32
         small1 j = by (cases_eq j play.i)
           where
             by : (j ≡ play.i) ⊎ (j ≡ play.i → ⊥) → will1 j < 2 ^ 32
@@ -369,11 +366,17 @@ module _ (programs : List Program) (detaches : List Detach) (number : ℕ) (whol
             ∙ (λ k. with_waiting play.i (option_map (receive_of (sym value_is k)) (parks tu.turn tu.behind.receive)) (sym (boxes_other play.i f.value will tu.behind.boxes none_waiting) k))
             ∙ sym (parked_boxes will1 play.i (parks tu.turn tu.behind.receive) tu.behind.boxes)
 
-        lines_are : lines ≡ told_lines programs detaches number tellers c sizes all play.i play.w t.0 n play.program t.1 sized calm.0 calm.1 least size n_is tu
+        pub lines_are : lines ≡ told_lines programs detaches number tellers c sizes all play.i play.w t.0 n play.program t.1 sized calm.0 calm.1 least size n_is tu
         lines_are =
             play.made
             ∙ (λ k. map (λ (e : Event). line_at (tie.due k) play.i (told_pause (parking_is k) e)) (events_with_looks play.w.looks (sym f.turn_is k)))
             ∙ (λ k. map (λ (e : Event). line_at t.0.due play.i (told_map (receive_of f.value) (parks tu.turn tu.behind.receive) e k)) (events_with_looks play.w.looks tu.turn))
+
+        pub turn_beside : Beside will1 wholes (now programs detaches number tellers c sizes all play.i play.w t.0 n play.program t.1 sized calm.0 calm.1 least size n_is tu) actors'
+        turn_beside = subst (λ (l : List Actor). Beside will1 wholes (settle_all (suc t.0.due) ss (slice_set tellers play.i told1)) l) (sym actors_are) beside1
+
+        pub turn_shared : sh' ≡ shared_by will1 (c2 programs detaches number tellers c sizes all play.i play.w t.0 n play.program t.1 sized calm.0 calm.1 least size n_is tu)
+        turn_shared = play.shared ∙ (λ k. record { devices = ap (λ (z : Midst). z.devices) f.behind_is k; boxes = boxes_are k; tick = tie.due k })
 
         retold_turn : Retold lines actors' sh'
         retold_turn = record {
@@ -387,8 +390,8 @@ module _ (programs : List Program) (detaches : List Detach) (number : ℕ) (whol
               (c2 programs detaches number tellers c sizes all play.i play.w t.0 n play.program t.1 sized calm.0 calm.1 least size n_is tu)) (sym lines_are)
               (turn programs detaches number tellers c sizes all play.i play.w t.0 n play.program t.1 sized calm.0 calm.1 least size n_is tu));
           holds = turn_holds programs detaches number tellers c sizes all play.i play.w t.0 n play.program t.1 sized calm.0 calm.1 least size n_is tu;
-          beside' = subst (λ (l : List Actor). Beside will1 wholes (settle_all (suc t.0.due) ss (slice_set tellers play.i told1)) l) (sym actors_are) beside1;
-          shared = play.shared ∙ (λ k. record { devices = ap (λ (z : Midst). z.devices) f.behind_is k; boxes = boxes_are k; tick = tie.due k });
+          beside' = turn_beside;
+          shared = turn_shared;
         }
 
       turn_again : Retold lines actors' sh'
@@ -419,44 +422,63 @@ module _ (programs : List Program) (detaches : List Detach) (number : ℕ) (whol
               by (goes_along e none size ns k) = let f = follows size k in subst (λ (l : List Note). list_any note_stalls l ≡ false) f.turn_is f.tu.calm
               by (waits_on e r some size ns cut st) = absurd (no_await r (sym calm.1 ∙ some))
 
-    module _ (play : Stalls programs detaches number actors sh lines actors' sh') where
-      abbrev t2 : (t : Teller) × (slice_get tellers play.i ≡ Some t)
-      t2 = item tellers play.i (omega (arith, slice_get_within actors play.i play.a play.there, beside.long))
-
-      abbrev h2 : (h : Whole) × (slice_get wholes play.i ≡ Some h)
-      h2 = whole_at play.i t2.0 t2.1
-
-      tie2 : Tied (will play.i) t2.0 h2.0 play.a
+    module _ (play : Stalls programs detaches number actors sh lines actors' sh') (t2 : (t : Teller) × (slice_get tellers play.i ≡ Some t)) (h2 : (h : Whole) × (slice_get wholes play.i ≡ Some h)) where
+      pub tie2 : Tied (will play.i) t2.0 h2.0 play.a
       tie2 = beside.each play.i t2.0 h2.0 play.a t2.1 h2.1 play.there
 
-      record ParksAt (s : Store) (o : Option Await) (p : Parked) : Type 0 where
-        r : Await
-        is : o ≡ Some r
-        at : p ≡ record { import = r.import; store = s }
+      pub record ParksAt (s : Store) (o : Option Await) (p : Parked) : Type 0 where
+        pub r : Await
+        pub is : o ≡ Some r
+        pub at : p ≡ record { import = r.import; store = s }
 
       parks_at : (s : Store) (o : Option Await) (p : Parked) → parked_of s o ≡ Some p → ParksAt s o p
       parks_at s None p e = absurd cc
       parks_at s (Some r) p e = record { r = r; is = refl; at = sym (same_Some (record { import = r.import; store = s }) p e) }
 
-      waits2 : ParksAt (store_behind t2.0.told) (waits_at t2.0) play.at
+      pub waits2 : ParksAt (store_behind t2.0.told) (waits_at t2.0) play.at
       waits2 = parks_at (store_behind t2.0.told) (waits_at t2.0) play.at (sym tie2.parked ∙ play.waits)
 
-      none_due : NoneDue (map due_of tellers)
+      pub none_due : NoneDue (map due_of tellers)
       none_due j tick e =
           let u = dues_back j tick e in let r = due_ready j u.0 tick u.1 u.2 in play.none_ready j r.0 r.1 r.2
 
-      first2 : (j : ℕ) (u : Teller) (q : Await) → slice_get tellers j ≡ Some u → waits_at u ≡ Some q → play.i ≤ j
+      pub first2 : (j : ℕ) (u : Teller) (q : Await) → slice_get tellers j ≡ Some u → waits_at u ≡ Some q → play.i ≤ j
       first2 j u q eu ew =
           let b = actor_at j u eu in
           let g = whole_at j u eu in
           let tj = beside.each j u g.0 b.0 eu g.1 b.1 in
           play.first j b.0 (record { import = q.import; store = store_behind u.told }) b.1 (tj.parked ∙ ap (parked_of (store_behind u.told)) ew)
 
-      abbrev at2 : Waits tellers
+      abbrev pub at2 : Waits tellers
       at2 = record { i = play.i; t = t2.0; r = waits2.r; there = t2.1; waits = waits2.is; first = first2 }
 
       w_is : (program_there programs detaches number tellers c sizes all none_due at2).0 ≡ play.w
       w_is = same_Some _ play.w (sym (program_there programs detaches number tellers c sizes all none_due at2).1 ∙ play.program)
+
+      abbrev pub over2 : Teller
+      over2 = record { due = t2.0.due; has_ended = true; answers = t2.0.answers; told = t2.0.told; met = t2.0.met; receive = t2.0.receive }
+
+      pub stall_beside : Beside will wholes (slice_set tellers play.i over2) actors'
+      stall_beside =
+          subst (λ (l : List Actor). Beside will wholes (slice_set tellers play.i over2) l) (sym play.after)
+          (set_beside wholes will will tellers actors play.i t2.0 over2 h2.0 play.a (record play.a { parked = None }) (λ j other. refl) t2.1 h2.1 play.there (record {
+            due = tie2.due;
+            answers = tie2.answers;
+            notes = tie2.notes;
+            outcomes = tie2.outcomes;
+            parked = refl;
+            over = λ e. play.no_more;
+          }) beside)
+
+      pub stall_shared : sh' ≡ shared_by will (record { devices = detached number detaches c.devices; boxes = c.boxes; tick = c.tick })
+      stall_shared = play.shared ∙ ap (λ (z : Shared). record z { devices = detached number detaches z.devices }) is_shared
+
+      pub stalled_lines : lines ≡ stall_lines programs detaches number tellers c sizes all none_due at2
+      stalled_lines =
+          play.made
+          ∙ (λ k. map (line_at (ap (λ (z : Shared). z.tick) is_shared k) play.i)
+          (Rattle.wa_model.specs.Outside.ended (Rattle.wa_model.specs.declared.events.End.TheVariants.Stalled (waits2.at k).import)
+          ∷ Rattle.world_model.specs.World.look_events (waits2.at k).store (sym w_is k).looks))
 
       stall_again : Retold lines actors' sh'
       stall_again = record {
@@ -466,32 +488,39 @@ module _ (programs : List Program) (detaches : List Detach) (number : ℕ) (whol
         will' = will;
         small' = small;
         event = tells_stall (subst (λ (l : List Line). TellsStall programs detaches number tellers c l (slice_set tellers play.i (over_now programs detaches number tellers c sizes all none_due at2))
-            (stall_common programs detaches number tellers c sizes all none_due at2)) (sym lines2) (stall programs detaches number tellers c sizes all none_due at2));
+            (stall_common programs detaches number tellers c sizes all none_due at2)) (sym stalled_lines) (stall programs detaches number tellers c sizes all none_due at2));
         holds = stall_keeps programs detaches number tellers c sizes all none_due at2;
-        beside' = subst (λ (l : List Actor). Beside will wholes (slice_set tellers play.i over2) l) (sym play.after)
-            (set_beside wholes will will tellers actors play.i t2.0 over2 h2.0 play.a (record play.a { parked = None }) (λ j other. refl) t2.1 h2.1 play.there (record {
-              due = tie2.due;
-              answers = tie2.answers;
-              notes = tie2.notes;
-              outcomes = tie2.outcomes;
-              parked = refl;
-              over = λ e. play.no_more;
-            }) beside);
-        shared = play.shared ∙ ap (λ (z : Shared). record z { devices = detached number detaches z.devices }) is_shared;
+        beside' = stall_beside;
+        shared = stall_shared;
       }
-        where
-          over2 : Teller
-          over2 = record { due = t2.0.due; has_ended = true; answers = t2.0.answers; told = t2.0.told; met = t2.0.met; receive = t2.0.receive }
-
-          lines2 : lines ≡ stall_lines programs detaches number tellers c sizes all none_due at2
-          lines2 = play.made
-              ∙ (λ k. map (line_at (ap (λ (z : Shared). z.tick) is_shared k) play.i)
-              (Rattle.wa_model.specs.Outside.ended (Rattle.wa_model.specs.declared.events.End.TheVariants.Stalled (waits2.at k).import)
-              ∷ Rattle.world_model.specs.World.look_events (waits2.at k).store (sym w_is k).looks))
 
     event_again : Plays programs detaches number actors sh lines actors' sh' → Retold lines actors' sh'
-    event_again (a_turn play) = turn_again play
-    event_again (a_stall play) = stall_again play
+    event_again (a_turn play) =
+        let t = teller_there play.i play.a play.next.there in turn_again play t (whole_at play.i t.0 t.1)
+    event_again (a_stall play) =
+        let t = teller_there play.i play.a play.there in stall_again play t (whole_at play.i t.0 t.1)
+
+-- who hasn't ended and doesn't wait has notes to come, where ends are told
+module _ (programs : List Program) (detaches : List Detach) (count number : ℕ) (wholes : List Whole) (before lines : List Line) (tellers : List Teller) (c : Common) (sizes : List ℕ) (will : ℕ → ℕ)
+    (actors last : List Actor) (sh sh' : Shared) (holds : AllHold programs tellers c sizes) (beside : Beside will wholes tellers actors) (calm : Calm before tellers) (going : Going programs tellers)
+    (played : Played programs detaches number count actors sh lines last sh') (ends : EndsAreTold programs (before ++ lines) last) where
+  pub awake_on : (j : ℕ) (t : Teller) (a : Actor) → slice_get tellers j ≡ Some t → slice_get actors j ≡ Some a → t.has_ended ≡ false → t.receive ≡ None → 0 < length a.notes
+  awake_on j t a et ea unended none = by a.notes refl
+    where
+      by : (ns : List Note) → a.notes ≡ ns → 0 < length a.notes
+      by (x ∷ ns) e = let z = ap length e in omega (arith, z)
+      by [] e =
+          let hw = item wholes j (omega (arith, slice_get_within tellers j t et, beside.wide)) in
+          let w = item programs j (omega (arith, slice_get_within tellers j t et, holds.long)) in
+          let tie = beside.each j t hw.0 a et hw.1 ea in
+          let up : a.parked ≡ None = tie.parked ∙ (λ k. parked_of (store_behind t.told) (if_going (unended k) (none k))) in
+          let s = sleeps_all j a ea e up in
+          let told_it = ends j w.0 s.1 w.1 s.2 (going j w.0 t w.1 et unended) s.3 s.4 in
+          absurd (no_true (sym (list_any-append (λ (l : Line). nat_eq l.program j && is_end l.event) before lines ∙ both_false (tells_end j before) (tells_end j lines) (calm j t et unended) s.0) ∙ told_it))
+        where
+          sleeps_all : (j : ℕ) (a : Actor) → slice_get actors j ≡ Some a → a.notes ≡ [] → a.parked ≡ None
+              → (tells_end j lines ≡ false) × (b : Actor) × (slice_get last j ≡ Some b) × (b.notes ≡ []) × (b.parked ≡ None)
+          sleeps_all j a ea e up = sleeps_on programs detaches count number actors last sh sh' lines j a ea e up played
 
 -- ---- all events
 
@@ -505,7 +534,7 @@ record AllTold (begun : ℕ) (programs : List Program) (detaches : List Detach) 
   holds : AllHold programs tellers c sizes
   will : ℕ → ℕ
   small : (j : ℕ) → will j < 2 ^ 32
-  beside : Beside will wholes tellers last
+  pub beside : Beside will wholes tellers last
   shared : sh ≡ shared_by will c
   calm : Calm lines tellers
   going : Going programs tellers
@@ -532,50 +561,33 @@ module _ (begun : ℕ) (programs : List Program) (detaches : List Detach) (boxes
         going = going;
       }
   walks (suc count) past number before lines tellers c sizes will actors last sh sh' numbered small tells holds beside calm going is h ends =
-      let r = event_again programs detaches (suc (begun + past)) wholes will tellers c sizes holds actors beside stories awake small sh is h.0 h.2 h.3
+      let r = event_again programs detaches (suc (begun + past)) wholes will tellers c sizes holds actors beside stories
+      (awake_on programs detaches (suc count) number wholes before lines tellers c sizes will actors last sh sh' holds beside calm going h ends) small sh is h.0 h.2 h.3
       (subst (λ (n : ℕ). Plays programs detaches n actors sh h.0 h.2 h.3) numbered h.4) in
       let lines_are : before ++ lines ≡ (before ++ h.0) ++ h.1 = ap (λ (l : List Line). before ++ l) h.6 ∙ sym (append_assoc before h.0 h.1) in
       subst (λ (l : List Line). AllTold begun programs detaches boxes ds wholes l last sh') (sym lines_are)
       (walks count (suc past) (suc number) (before ++ h.0) h.1 r.tellers' r.c' r.sizes' r.will' h.2 last h.3 sh' (omega (arith, numbered)) r.small' (before, h.0, tellers, c, tells, r.event, refl) r.holds
       r.beside' (calm_event programs detaches (suc (begun + past)) tellers c before h.0 calm r.tellers' r.c' r.event)
       (going_event programs detaches (suc (begun + past)) tellers c h.0 going r.tellers' r.c' r.event) r.shared h.5 (subst (λ (l : List Line). EndsAreTold programs l last) lines_are ends))
-    where
-      awake : (j : ℕ) (t : Teller) (a : Actor) → slice_get tellers j ≡ Some t → slice_get actors j ≡ Some a → t.has_ended ≡ false → t.receive ≡ None → 0 < length a.notes
-      awake j t a et ea unended none = by a.notes refl
-        where
-          by : (ns : List Note) → a.notes ≡ ns → 0 < length a.notes
-          by (x ∷ ns) e = let z = ap length e in omega (arith, z)
-          by [] e =
-              let hw = item wholes j (omega (arith, slice_get_within tellers j t et, beside.wide)) in
-              let w = item programs j (omega (arith, slice_get_within tellers j t et, holds.long)) in
-              let tie = beside.each j t hw.0 a et hw.1 ea in
-              let up : a.parked ≡ None = tie.parked ∙ (λ k. parked_of (store_behind t.told) (if_going (unended k) (none k))) in
-              let s = sleeps_all j a ea e up in
-              let told_it = ends j w.0 s.1 w.1 s.2 (going j w.0 t w.1 et unended) s.3 s.4 in
-              absurd (no_true (sym (list_any-append (λ (l : Line). nat_eq l.program j && is_end l.event) before lines ∙ both_false (tells_end j before) (tells_end j lines) (calm j t et unended) s.0) ∙ told_it))
-            where
-              sleeps_all : (j : ℕ) (a : Actor) → slice_get actors j ≡ Some a → a.notes ≡ [] → a.parked ≡ None
-                  → (tells_end j lines ≡ false) × (b : Actor) × (slice_get last j ≡ Some b) × (b.notes ≡ []) × (b.parked ≡ None)
-              sleeps_all j a ea e up = sleeps_on programs detaches (suc count) number actors last sh sh' lines j a ea e up h
 
 -- ---- from where programs begin
 
-abbrev whole_from : Actor → Whole
+abbrev pub whole_from : Actor → Whole
 whole_from a = record { notes = a.notes; outcomes = a.outcomes }
 
-opens_so : (names : List (List ℕ)) → map empty_box names ≡ map (promised (λ (j : ℕ). 0)) (map no_mail names)
+pub opens_so : (names : List (List ℕ)) → map empty_box names ≡ map (promised (λ (j : ℕ). 0)) (map no_mail names)
 opens_so [] = refl
 opens_so (n ∷ names) = ap (λ (l : List Mailbox). empty_box n ∷ l) (opens_so names)
 
 module _ (begun : ℕ) (programs : List Program) (detaches : List Detach) (boxes : List (List ℕ)) (ds ds' : List Device) (number : ℕ) (lines : List Line)
     (world : ProtocolWorldUpToFrom begun programs detaches boxes ds number lines ds') where
-  stories : (i : ℕ) (w : Program) (h : Whole) → slice_get programs i ≡ Some w → slice_get (map whole_from world.actors) i ≡ Some h → HeldStory w h.outcomes h.notes
+  pub stories : (i : ℕ) (w : Program) (h : Whole) → slice_get programs i ≡ Some w → slice_get (map whole_from world.actors) i ≡ Some h → HeldStory w h.outcomes h.notes
   stories i w h ew eh =
       let a = item world.actors i (omega (arith, slice_get_within programs i w ew, starts_long programs world.actors world.starts)) in
       let e : whole_from a.0 ≡ h = same_Some (whole_from a.0) h (sym (map_at whole_from world.actors i a.0 a.1) ∙ eh) in
       subst (λ (x : Whole). HeldStory w x.outcomes x.notes) e (zip_both StartsHeld programs world.actors world.starts i w a.0 ew a.1).story
 
-  beside : Beside (λ (j : ℕ). 0) (map whole_from world.actors) (map teller_at programs) world.actors
+  pub beside : Beside (λ (j : ℕ). 0) (map whole_from world.actors) (map teller_at programs) world.actors
   beside = record {
     wide = length-map world.actors whole_from ∙ starts_long programs world.actors world.starts ∙ sym (length-map programs teller_at);
     long = starts_long programs world.actors world.starts ∙ sym (length-map programs teller_at);
@@ -598,7 +610,7 @@ module _ (begun : ℕ) (programs : List Program) (detaches : List Detach) (boxes
           } in
           subst (λ (x : Teller). Tied 0 x h a) e1 (subst (λ (x : Whole). Tied 0 (teller_at w.0) x a) e2 tie)
 
-  start_going : Going programs (map teller_at programs)
+  pub start_going : Going programs (map teller_at programs)
   start_going j w t ew et f = ap (λ (x : Teller). x.has_ended) (same_Some (teller_at w) t (sym (map_at teller_at programs j w ew) ∙ et)) ∙ f
 
   world_told : AllTold begun programs detaches boxes ds (map whole_from world.actors) lines world.now world.shared
@@ -622,8 +634,12 @@ module _ (begun : ℕ) (programs : List Program) (detaches : List Detach) (boxes
   world_calm : (more : List Line) (actors' : List Actor) (sh' : Shared) → (t : TakesTurn programs detaches (suc number) world.now world.shared more actors' sh')
       → list_any note_stalls (turn_of t.a.notes) ≡ false
   world_calm more actors' sh' t =
+      let u = teller_there programs detaches (suc number) (map whole_from world.actors) world_told.will world_told.tellers world_told.c world_told.sizes world_told.holds world.now world_told.beside stories
+      awake_now world_told.small t.i t.a t.next.there in
+      let h = whole_at programs detaches (suc number) (map whole_from world.actors) world_told.will world_told.tellers world_told.c world_told.sizes world_told.holds world.now world_told.beside stories
+      awake_now world_told.small t.i u.0 u.1 in
       calm_again programs detaches (suc number) (map whole_from world.actors) world_told.will world_told.tellers world_told.c world_told.sizes world_told.holds world.now world_told.beside stories
-      awake_now world_told.small world.shared world_told.shared more actors' sh' t
+      awake_now world_told.small world.shared world_told.shared more actors' sh' t u h
 
 pub worlds_go_on : WorldsGoOn
 worlds_go_on begun programs detaches boxes ds ds' number lines world =

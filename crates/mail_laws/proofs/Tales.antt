@@ -1,5 +1,5 @@
 -- What a run under the protocol still tells, and that until it pauses at a receive that isn't answered it doesn't read the answer.
-use Rattle.std.proofs.Common.{subst, arith, ◌≡◌, ◌≤◌, ◌-◌, ℕ, zero, suc, List, [], ◌∷◌, ◌++◌, length, Option, Some, None, Bool, true, false, refl, ap, ◌∙◌, append_assoc}
+use Rattle.std.proofs.Common.{subst, arith, ◌≡◌, ◌≤◌, ◌-◌, ℕ, zero, suc, List, [], ◌∷◌, ◌++◌, length, Option, Some, None, Bool, true, false, refl, sym, ap, ◌∙◌, append_assoc}
 use Rattle.std.specs.Prelude.{nat_lt, if◌then◌else◌}
 use Rattle.wa_types.specs.declared.values.Value.{Value}
 use Rattle.wa_types.specs.declared.values.Value.TheVariants as V
@@ -24,6 +24,7 @@ use Rattle.world_model.specs.World.{unless_over}
 use Rattle.host_laws.specs.Stretch.{meeting as with_more}
 use Rattle.mail_laws.specs.MailWorld.{is_pause}
 use Rattle.mail_laws.specs.Mailboxes.{mailed}
+use Rattle.mail_laws.specs.Replays.{wrong_in, wrong_value}
 use Rattle.mail_laws.proofs.OpenMoves.{IsTame, TameEnd, fault_tame, NotOver}
 
 -- the answer of a receive at an empty mailbox
@@ -197,10 +198,17 @@ module _ (p : Module) (x : Exports) (plan : Plan) (most : ℕ) where
 
   -- ---- a call that makes such a receive
 
-  -- for this value alone where it ends, and else for every one
+  -- it ends for another value too, by the same note where both tell one value of a wrong type, or none
+  pub record EndsToo (f : ℕ → List Outcome → Turn Held Note) (k : ℕ) (y z : Note) (s : Store) (v : ℕ) : Type 0 where
+    pub other : Note
+    pub made : (more : List Outcome) → f v more ≡ goes k (y ∷ other ∷ []) (over s)
+    pub same : wrong_in other.event ≡ wrong_in z.event → other ≡ z
+
+  -- for this value where it ends, and else for every one
   pub data Receives (a : ℕ) (c : Call) (f : ℕ → List Outcome → Turn Held Note) : Type 0 where
     r_stops : ((more : List Outcome) → f a more ≡ stops) → Receives a c f
-    r_ends : (k : ℕ) (y z : Note) (s : Store) → y.event ≡ called c → IsTame z.event → ((more : List Outcome) → f a more ≡ goes k (y ∷ z ∷ []) (over s)) → Receives a c f
+    r_ends : (k : ℕ) (y z : Note) (s : Store) → y.event ≡ called c → IsTame z.event → ((more : List Outcome) → f a more ≡ goes k (y ∷ z ∷ []) (over s))
+        → ((v : ℕ) → EndsToo f k y z s v) → Receives a c f
     r_unwinds : (k : ℕ) (y : Note) (u : Unwinding) → y.event ≡ called c → ((v : ℕ) (more : List Outcome) → f v more ≡ goes k (y ∷ []) (with_more more (unwound u v))) → Receives a c f
 
   same_fault : (results : List ValType) (size : ℕ) (start : Bool) (import a v : ℕ) → fault_of results size plan start import (answer_of a) ≡ None
@@ -213,6 +221,33 @@ module _ (p : Module) (x : Exports) (plan : Plan) (most : ℕ) where
       by_type true h = h
       by_type false h = absurd cc
   same_fault (t ∷ t2 ∷ ts) size start import a v e = absurd cc
+
+  end_too : (results : List ValType) (size : ℕ) (start : Bool) (import a v : ℕ) (e : End) → fault_of results size plan start import (answer_of a) ≡ Some e
+      → (d : End) × (fault_of results size plan start import (answer_of v) ≡ Some d) × (wrong_value d ≡ wrong_value e → d ≡ e)
+  end_too results size start import a v e is = by_results results is
+    where
+      one : (d : End) → Some d ≡ Some e → d ≡ e
+      one d h = cc
+
+      number : (x y : Option Value) → Some x ≡ Some y → x ≡ y
+      number x y h = cc
+
+      wrong : Some (BadAnswer import (Some (V.I32 a))) ≡ Some e → wrong_value (BadAnswer import (Some (V.I32 v))) ≡ wrong_value e → BadAnswer import (Some (V.I32 v)) ≡ e
+      wrong h q =
+          let d = one (BadAnswer import (Some (V.I32 a))) h in
+          ap (λ (x : Option Value). BadAnswer import x) (number (Some (V.I32 v)) (Some (V.I32 a)) (q ∙ ap wrong_value (sym d))) ∙ d
+
+      by_type : (b : Bool) → or_else (if b then None else Some (BadAnswer import (Some (V.I32 a)))) (bad_pause start (is_unlisted plan.listed import) import 1) ≡ Some e
+          → (d : End) × (or_else (if b then None else Some (BadAnswer import (Some (V.I32 v)))) (bad_pause start (is_unlisted plan.listed import) import 1) ≡ Some d)
+          × (wrong_value d ≡ wrong_value e → d ≡ e)
+      by_type true h = (e, h, λ q. refl)
+      by_type false h = (BadAnswer import (Some (V.I32 v)), refl, λ q. wrong h q)
+
+      by_results : (ts : List ValType) → fault_of ts size plan start import (answer_of a) ≡ Some e
+          → (d : End) × (fault_of ts size plan start import (answer_of v) ≡ Some d) × (wrong_value d ≡ wrong_value e → d ≡ e)
+      by_results [] h = (BadAnswer import (Some (V.I32 v)), refl, λ q. wrong h q)
+      by_results (t ∷ []) h = by_type (Rattle.wa_types.specs.Encoding.same_type t T.I32) h
+      by_results (t ∷ t2 ∷ ts) h = (BadAnswer import (Some (V.I32 v)), refl, λ q. wrong h q)
 
   pub receives : (a k import : ℕ) (args : List Value) (who : Asker) (l : Left)
       → Receives a (record { import = import; args = args }) (λ (v : ℕ) (more : List Outcome). held_asked p x plan k import args who l (mailed (Some (V.I32 v)) 1 ∷ more))
@@ -239,5 +274,8 @@ module _ (p : Module) (x : Exports) (plan : Plan) (most : ℕ) where
       by_fault (Some e) is =
           let y : Note = call_note import args (store_at who) (stack_at p who) None in r_ends k y (note (ended e) y.store) y.store refl
           (refl, subst TameEnd is (fault_tame (func_type_at p import).results (length (store_at who).memory) plan (in_start who) import (answer_of a))) (λ more. tested a more (Some e) is)
+          (λ v.
+          let d = end_too (func_type_at p import).results (length (store_at who).memory) (in_start who) import a v e is in
+          record { other = note (ended d.0) y.store; made = λ more. tested v more (Some d.0) d.1; same = λ q. ap (λ (x : End). note (ended x) y.store) (d.2 q) })
       by_fault None is =
           by_who who (λ v more. tested v more None (same_fault (func_type_at p import).results (length (store_at who).memory) (in_start who) import a v is))

@@ -21,8 +21,10 @@ use Rattle.mail_laws.specs.Stalling.{stalls, is_stalled}
 use Rattle.mail_laws.proofs.OpenMoves.{IsTame, Tame, NotOver, Plain, Leaves, on_it_goes, it_pauses, it_ends, Fine, CallFine, spent_is, Asks, Kind, kind, asked_with}
 use Rattle.mail_laws.proofs.Tales.{tale_stops, tale_dear, tale_goes, tale_over, unwound, Unread, then_ends, then_pauses, unread, Receives, r_stops, r_ends, r_unwinds, receives}
 use Rattle.mail_laws.proofs.CallsTold.{Awaits, Mirrors, is_chosen, is_awaited, mirror}
-use Rattle.mail_laws.proofs.TurnsTold.{pause_calm, Unended, CallFree, unended_on, plain_unended, free_last, plain_free, end_ends, pause_ends, call_goes_on, last_tells, still_tells, Behind, is_over, is_parked}
-use Rattle.mail_laws.proofs.TurnsTold.{Turned, Sofar, Story, end_turn, pause_turn, with_plain, with_call, receive_turn}
+use Rattle.mail_laws.specs.Replays.{wrong_in}
+use Rattle.mail_laws.proofs.KnownCalls.{CallFree}
+use Rattle.mail_laws.proofs.TurnsTold.{pause_calm, Unended, unended_on, plain_unended, free_last, plain_free, end_ends, pause_ends, call_goes_on, last_tells, still_tells, Behind, is_over, is_parked}
+use Rattle.mail_laws.proofs.TurnsTold.{Turned, ends_for_any, Sofar, Story, end_turn, pause_turn, with_plain, with_call, receive_turn}
 
 -- ---- notes to come, which may be cut at a pause
 
@@ -368,8 +370,10 @@ module _ (w : Program) (i : ℕ) (t : Teller) (tellers : List Teller) (begin : A
               over_is = λ o. ap behind_turn all ∙ behind_call y (z ∷ more) goes_on.0 ∙ behind_ends z more ends ∙ over_more o;
             }
 
-        f_last : (y z : Note) → y.event ≡ called call → IsTame z.event → still_tells w (suc count) n (with_more us h) ≡ y ∷ z ∷ [] → Followed part os ms us
-        f_last y z called_y end_z tells =
+        f_last : (y z : Note) → y.event ≡ called call → IsTame z.event → still_tells w (suc count) n (with_more us h) ≡ y ∷ z ∷ []
+            → ((v : ℕ) (more : List Outcome) → (other : Note) × (still_tells w (suc count) n (with_more (mailed (Some (V.I32 v)) 1 ∷ more) h) ≡ y ∷ other ∷ [])
+            × (wrong_in other.event ≡ wrong_in z.event → other ≡ z)) → Followed part os ms us
+        f_last y z called_y end_z tells others =
             let goes_on = call_goes_on y.event call called_y in
             let ends = end_ends z.event end_z.0 in
             let all : ms ≡ y ∷ z ∷ [] = split_end (y ∷ []) ms rest z (is ∙ tells) (goes_on.0, tt) end_z.0 cut in
@@ -379,13 +383,14 @@ module _ (w : Program) (i : ℕ) (t : Teller) (tellers : List Teller) (begin : A
             ∙ ap (λ (l : List Outcome). protocol_story w (t.met ++ (os ++ l))) (sym eu)
             ∙ st us
             ∙ ap (λ (l : List Note). t.told ++ (part ++ l)) tells
-            ∙ ap (λ (l : List Note). t.told ++ l) (sym (append_assoc part (y ∷ []) (z ∷ [])))))
+            ∙ ap (λ (l : List Note). t.told ++ l) (sym (append_assoc part (y ∷ []) (z ∷ []))))
+            (ends_for_any w i t tellers begin limit part os (λ (more : List Outcome). still_tells w (suc count) n (with_more more h)) st y z aw.r others))
             (λ o. refl)
 
         f_received : Receives p ex w.plan w.steps value call (λ (v : ℕ) (more : List Outcome). held_asked p ex w.plan a.k a.import a.args a.who a.l (mailed (Some (V.I32 v)) 1 ∷ more)) → Followed part os ms us
         f_received (r_stops f) =
             spent_by (tale_stops p ex w.plan w.steps count n (with_more us h) (ap (λ (l : List Outcome). protocol p ex w.plan (with_more l h)) eu ∙ a.same (answer ∷ us') ∙ f us'))
-        f_received (r_ends k y z s called_y end_z f) = by_cost (nat_lt k n) refl
+        f_received (r_ends k y z s called_y end_z f too) = by_cost (nat_lt k n) refl
           where
             turn : protocol p ex w.plan (with_more us h) ≡ goes k (y ∷ z ∷ []) (over s)
             turn = ap (λ (l : List Outcome). protocol p ex w.plan (with_more l h)) eu ∙ a.same (answer ∷ us') ∙ f us'
@@ -395,6 +400,13 @@ module _ (w : Program) (i : ℕ) (t : Teller) (tellers : List Teller) (begin : A
             by_cost true paid =
                 f_last y z called_y end_z
                 (tale_goes p ex w.plan w.steps count n (with_more us h) k (y ∷ z ∷ []) (over s) turn paid ∙ ap (λ (l : List Note). y ∷ z ∷ l) (tale_over p ex w.plan w.steps count (n - suc k) s))
+                (λ v more.
+                let d = too v in (
+                  d.other,
+                  tale_goes p ex w.plan w.steps count n (with_more (mailed (Some (V.I32 v)) 1 ∷ more) h) k (y ∷ d.other ∷ []) (over s) (a.same (mailed (Some (V.I32 v)) 1 ∷ more) ∙ d.made more) paid
+                      ∙ ap (λ (l : List Note). y ∷ d.other ∷ l) (tale_over p ex w.plan w.steps count (n - suc k) s),
+                  d.same,
+                ))
         f_received (r_unwinds k y u called_y f) = by_cost (nat_lt k n) refl
           where
             turn : protocol p ex w.plan (with_more us h) ≡ goes k (y ∷ []) (with_more us' (unwound u value))
@@ -409,7 +421,8 @@ module _ (w : Program) (i : ℕ) (t : Teller) (tellers : List Teller) (begin : A
             here_so paid = ap (λ (l : List Outcome). still_tells w (suc count) n (with_more l h)) eu ∙ goes_so paid value us'
 
             by_unread : nat_lt k n ≡ true → Unread p ex w.plan w.steps (λ (v : ℕ) (more : List Outcome). still_tells w count (n - suc k) (with_more more (unwound u v))) count → Followed part os ms us
-            by_unread paid (then_ends z e g) = f_last y z called_y e (here_so paid ∙ ap (λ (l : List Note). y ∷ l) (g value us'))
+            by_unread paid (then_ends z e g) =
+                f_last y z called_y e (here_so paid ∙ ap (λ (l : List Note). y ∷ l) (g value us')) (λ v more. (z, goes_so paid v more ∙ ap (λ (l : List Note). y ∷ l) (g v more), λ q. refl))
             by_unread paid (then_pauses z r c2 n2 e no_r less g) =
                 let goes_on = call_goes_on y.event call called_y in
                 let ends = pause_ends z.event e in

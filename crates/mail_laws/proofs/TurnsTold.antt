@@ -3,6 +3,7 @@ use Rattle.std.proofs.Common.{arith, ◌≡◌, ◌<◌, ◌≤◌, ◌-◌, ◌
 use Rattle.std.proofs.Common.{append_assoc, append-nil}
 use Rattle.std.specs.Prelude.{nat_lt, ◌||◌}
 use Rattle.std.specs.List.{list_any}
+use Rattle.wa_types.specs.declared.values.Value.{Value}
 use Rattle.wa_types.specs.declared.values.Value.TheVariants as V
 use Rattle.wa_model.specs.Machine.{Turn, stops, goes}
 use Rattle.wa_model.specs.declared.events.End.TheVariants.{StepsSpent}
@@ -19,17 +20,15 @@ use Rattle.mail_laws.specs.Told.{Await, Amid, Teller, midst_by, pending, KeepsPr
 use Rattle.mail_laws.specs.Stalling.{stalls, note_stalls}
 use Rattle.mail_laws.proofs.OpenMoves.{IsTame, NotOver, Plain, Leaves, on_it_goes, it_pauses, it_ends, Fine, CallFine, spent_is, Asks, Kind, kind, asked_with}
 use Rattle.mail_laws.proofs.Tales.{tale, tale_stops, tale_dear, tale_goes, tale_over, unwound, Unread, then_ends, then_pauses, unread, Receives, r_stops, r_ends, r_unwinds, receives}
+use Rattle.mail_laws.specs.Replays.{wrong_in}
 use Rattle.mail_laws.proofs.CallsTold.{Posted, Chosen, Awaits, choose}
+use Rattle.mail_laws.proofs.KnownCalls.{CallFree, KnownCalls, KnownNote, OneQuiet, known_more, known_then_free}
 
 -- ---- notes
 
 abbrev pub Unended : List Note → Type 0
 Unended [] = Unit {0}
 Unended (x ∷ xs) = (ends_turn x.event ≡ false) × Unended xs
-
-abbrev pub CallFree : List Note → Type 0
-CallFree [] = Unit {0}
-CallFree (x ∷ xs) = (call_in x.event ≡ None) × CallFree xs
 
 pub unended_on : (xs ys : List Note) → Unended xs → Unended ys → Unended (xs ++ ys)
 unended_on [] ys h k = k
@@ -130,6 +129,20 @@ unended_calm (x ∷ xs) h = ap (λ (b : Bool). b || list_any note_stalls xs) (go
 pub last_calm : (xs : List Note) (x : Note) → Unended xs → stalls x.event ≡ false → list_any note_stalls (xs ++ x ∷ []) ≡ false
 last_calm xs x h e = any_on xs (x ∷ []) (unended_calm xs h) (any_one x e)
 
+-- the value of a wrong type that the last of them tells
+abbrev pub last_wrong : List Note → Option (Option Value)
+last_wrong [] = None
+last_wrong (x ∷ []) = wrong_in x.event
+last_wrong (x ∷ y ∷ ys) = last_wrong (y ∷ ys)
+
+pub last_tells_wrong : (xs : List Note) (x : Note) → last_wrong (xs ++ x ∷ []) ≡ wrong_in x.event
+last_tells_wrong [] x = refl
+last_tells_wrong (y ∷ []) x = refl
+last_tells_wrong (y ∷ z ∷ xs) x = last_tells_wrong (z ∷ xs) x
+
+pub some_receive : {X : Type 0} (r : X) → None ≡ Some r → ⊥
+some_receive r e = cc
+
 -- ---- calls
 
 pub calls_free : (w : Program) (xs es : List Note) (os : List Outcome) (lines : List AnswerLine) (z : Midst) (os' : List Outcome) (lines' : List AnswerLine) (z' : Midst) → CallFree es
@@ -185,10 +198,16 @@ pub data Knows (w : Program) (met : List Outcome) (told : List Note) (size : ℕ
 -- ---- a turn
 
 module _ (w : Program) (i : ℕ) (t : Teller) (tellers : List Teller) (begin : Amid) (limit : ℕ) where
+  -- where it ends at a receive that isn't answered, it ends for every value, by the same notes where both tell one value of a wrong type
+  abbrev pub ForAny : List Note → List Outcome → Option Await → Type 0
+  ForAny turn met receive =
+      (r : Await) → receive ≡ Some r → (v : ℕ) (more : List Outcome) → (other : List Note)
+      × (protocol_story w (t.met ++ met ++ mailed (Some (V.I32 v)) 1 ∷ more) ≡ t.told ++ other) × (last_wrong other ≡ last_wrong turn → other ≡ turn)
+
   -- what a turn leaves of its program
   pub data Behind (turn : List Note) (met : List Outcome) (receive : Option Await) : Type 0 where
     is_over : ends_program turn ≡ true → (value : ℕ) → value < 2 ^ 32 → (more : List Outcome) → protocol_story w (t.met ++ met ++ pending value receive ++ more) ≡ t.told ++ turn
-        → Behind turn met receive
+        → ForAny turn met receive → Behind turn met receive
     is_paused : ends_program turn ≡ false → receive ≡ None → (size : ℕ) → size < limit → Stands w (t.met ++ met) (t.told ++ turn) size → Behind turn met receive
     is_parked : ends_program turn ≡ false → (r : Await) → receive ≡ Some r → (size : ℕ) → size < limit
         → ((v : ℕ) → Stands w (t.met ++ met ++ mailed (Some (V.I32 v)) 1 ∷ []) (t.told ++ turn) size) → Behind turn met receive
@@ -202,6 +221,7 @@ module _ (w : Program) (i : ℕ) (t : Teller) (tellers : List Teller) (begin : A
     pub behind : Amid
     pub calls : (will : ℕ → ℕ) → ((j : ℕ) → will j < 2 ^ 32) → KeepsPromises will behind.settled
         → CallsMeet w turn (met ++ pending (will i) behind.receive) t.answers (midst_by will i begin) [] answers (midst_by will i behind)
+    pub known : KnownCalls w turn met t.answers begin [] answers behind
     pub posted : Posted tellers behind
     pub after : Behind turn met behind.receive
 
@@ -210,6 +230,7 @@ module _ (w : Program) (i : ℕ) (t : Teller) (tellers : List Teller) (begin : A
     pub plain : Unended part
     pub calls : (will : ℕ → ℕ) → ((j : ℕ) → will j < 2 ^ 32) → KeepsPromises will m.settled → CallsMeet w part os t.answers (midst_by will i begin) [] lines (midst_by will i m)
     pub none : m.receive ≡ None
+    pub known : KnownCalls w part os t.answers begin [] lines m
     pub posted : Posted tellers m
 
   abbrev pub Story : List Note → List Outcome → (List Outcome → List Note) → Type 0
@@ -239,11 +260,13 @@ module _ (w : Program) (i : ℕ) (t : Teller) (tellers : List Teller) (begin : A
         calls = λ will small keeps.
             no_receive (part ++ (xs ++ x ∷ [])) os lines m will so.none
             (calls_free w part (xs ++ x ∷ []) os t.answers (midst_by will i begin) [] lines (midst_by will i m) (free_last xs x pl ends.1) (so.calls will small keeps));
+        known = known_then_free w part (xs ++ x ∷ []) os t.answers lines begin m so.known so.none (free_last xs x pl ends.1);
         posted = so.posted;
         after = is_over (ap ends_program (sym same) ∙ last_tells (part ++ xs) x all ∙ e.0) 0 (omega arith) more
             (ap (λ (o : Option Await). protocol_story w (t.met ++ os ++ pending 0 o ++ more)) so.none
             ∙ ap (λ (us : List Outcome). protocol_story w (us ++ more)) (append-nil (t.met ++ os))
-            ∙ ap (protocol_story w) (append_assoc t.met os more) ∙ story);
+            ∙ ap (protocol_story w) (append_assoc t.met os more) ∙ story)
+            (λ r e. absurd (some_receive r (sym so.none ∙ e)));
       }
 
   -- a pause
@@ -261,6 +284,7 @@ module _ (w : Program) (i : ℕ) (t : Teller) (tellers : List Teller) (begin : A
         calls = λ will small keeps.
             no_receive (part ++ x ∷ []) os lines m will so.none
             (calls_free w part (x ∷ []) os t.answers (midst_by will i begin) [] lines (midst_by will i m) (ends.1, tt) (so.calls will small keeps));
+        known = known_then_free w part (x ∷ []) os t.answers lines begin m so.known so.none (ends.1, tt);
         posted = so.posted;
         after = is_paused (last_tells part x so.plain ∙ ends.2) so.none size lt (record {
           h = u;
@@ -280,6 +304,7 @@ module _ (w : Program) (i : ℕ) (t : Teller) (tellers : List Teller) (begin : A
         plain = unended_on part es so.plain (plain_unended es pl);
         calls = λ will small keeps. calls_free w part es os t.answers (midst_by will i begin) [] lines (midst_by will i m) (plain_free es pl) (so.calls will small keeps);
         none = so.none;
+        known = known_then_free w part es os t.answers lines begin m so.known so.none (plain_free es pl);
         posted = so.posted;
       }
 
@@ -294,6 +319,9 @@ module _ (w : Program) (i : ℕ) (t : Teller) (tellers : List Teller) (begin : A
             calls_more w part y c os ch.o t.answers lines ch.lines' (midst_by will i begin) (midst_by will i m) (midst_by will i ch.m') goes_on.1 (so.calls will small (ch.keeps will keeps))
             (ch.meets will keeps);
         none = ch.none ∙ so.none;
+        known = known_more w part (y ∷ []) os (ch.o ∷ []) t.answers lines ch.lines' begin m ch.m' so.known so.none
+            (subst (λ (q : Option Call). KnownNote w (OneQuiet []) q (ch.o ∷ []) lines m [] ch.lines' ch.m' (λ us l z. KnownCalls w [] us l z [] ch.lines' ch.m')) (sym goes_on.1)
+            (inl (ch.o, [], ch.lines', ch.m', refl, ch.known, (refl, refl, refl))));
         posted = record {
           once = λ j. subst (λ (k : ℕ). k ≤ 1) (sym (ch.same j)) (so.posted.once j);
           waits = λ j some. so.posted.waits j (subst (λ (k : ℕ). 0 < k) (ch.same j) some);
@@ -319,9 +347,29 @@ module _ (w : Program) (i : ℕ) (t : Teller) (tellers : List Teller) (begin : A
             calls_free w (part ++ y ∷ []) (z ∷ []) (os ++ mailed (Some (V.I32 (will i))) 1 ∷ []) t.answers (midst_by will i begin) [] lines (midst_by will i now) (none, tt)
             (calls_more w part y c os (mailed (Some (V.I32 (will i))) 1) t.answers lines lines (midst_by will i begin) (midst_by will i m) (midst_by will i now) goes_on.1
             (so.calls will small keeps) (aw.meets will small));
+        known =
+            subst (λ (us : List Outcome). KnownCalls w ((part ++ y ∷ []) ++ z ∷ []) us t.answers begin [] lines now) (append-nil os)
+            (subst (λ (ns : List Note). KnownCalls w ns (os ++ []) t.answers begin [] lines now) (sym (append_assoc part (y ∷ []) (z ∷ [])))
+            (known_more w part (y ∷ z ∷ []) os [] t.answers lines lines begin m now so.known so.none
+            (subst (λ (q : Option Call). KnownNote w (OneQuiet (z ∷ [])) q [] lines m [] lines now (λ us l u. KnownCalls w (z ∷ []) us l u [] lines now)) (sym goes_on.1)
+            (inr (aw.r, aw.known, (z, refl, none), refl, refl, refl)))));
         posted = record { once = so.posted.once; waits = so.posted.waits; small = so.posted.small };
         after = after;
       }
+
+  -- a receive behind which it ends, for every value
+  pub ends_for_any : (part : List Note) (os : List Outcome) (f : List Outcome → List Note) → Story part os f → (y z : Note) (r : Await)
+      → ((v : ℕ) (more : List Outcome) → (other : Note) × (f (mailed (Some (V.I32 v)) 1 ∷ more) ≡ y ∷ other ∷ []) × (wrong_in other.event ≡ wrong_in z.event → other ≡ z))
+      → ForAny ((part ++ y ∷ []) ++ z ∷ []) os (Some r)
+  ends_for_any part os f st y z r others q e v more =
+      let o = others v more in (
+        (part ++ y ∷ []) ++ o.0 ∷ [],
+        ap (protocol_story w) (append_assoc t.met os (mailed (Some (V.I32 v)) 1 ∷ more))
+            ∙ st (mailed (Some (V.I32 v)) 1 ∷ more)
+            ∙ ap (λ (l : List Note). t.told ++ (part ++ l)) o.1
+            ∙ ap (λ (l : List Note). t.told ++ l) (sym (append_assoc part (y ∷ []) (o.0 ∷ []))),
+        λ same. ap (λ (x : Note). (part ++ y ∷ []) ++ x ∷ []) (o.2 (sym (last_tells_wrong (part ++ y ∷ []) o.0) ∙ same ∙ last_tells_wrong (part ++ y ∷ []) z)),
+      )
 
   -- ---- on and on
 
@@ -400,28 +448,38 @@ module _ (w : Program) (i : ℕ) (t : Teller) (tellers : List Teller) (begin : A
 
       -- a receive behind which it ends
       received_end : (aw : Awaits w i call lines m) (y z : Note) → y.event ≡ called call → IsTame z.event
-          → still_tells w (suc count) n (with_more zero_first h) ≡ y ∷ z ∷ [] → Turned
-      received_end aw y z is e tells =
+          → still_tells w (suc count) n (with_more zero_first h) ≡ y ∷ z ∷ []
+          → ((v : ℕ) (more : List Outcome) → (other : Note) × (still_tells w (suc count) n (with_more (mailed (Some (V.I32 v)) 1 ∷ more) h) ≡ y ∷ other ∷ [])
+          × (wrong_in other.event ≡ wrong_in z.event → other ≡ z)) → Turned
+      received_end aw y z is e tells others =
           let ends = end_ends z.event e.0 in
           receive_turn part os lines m so y z call is aw ends.0 ends.1 e.1
           (is_over (last_tells (part ++ y ∷ []) z (unended_on part (y ∷ []) so.plain ((call_goes_on y.event call is).0, tt)) ∙ e.0) 0 (omega arith) []
           (ap (protocol_story w) (append-nil (t.met ++ os ++ zero_first) ∙ append_assoc t.met os zero_first)
           ∙ st zero_first
           ∙ ap (λ (l : List Note). t.told ++ (part ++ l)) tells
-          ∙ ap (λ (l : List Note). t.told ++ l) (sym (append_assoc part (y ∷ []) (z ∷ [])))))
+          ∙ ap (λ (l : List Note). t.told ++ l) (sym (append_assoc part (y ∷ []) (z ∷ []))))
+          (ends_for_any part os (λ (more : List Outcome). still_tells w (suc count) n (with_more more h)) st y z aw.r others))
 
       receive_by : (aw : Awaits w i call lines m)
           → Receives p ex w.plan w.steps 0 call (λ (v : ℕ) (more : List Outcome). held_asked p ex w.plan a.k a.import a.args a.who a.l (mailed (Some (V.I32 v)) 1 ∷ more)) → Turned
       receive_by aw (r_stops f) =
           spent_turn part os lines m so h no_h zero_first (still_tells w (suc count) n (with_more zero_first h)) (st zero_first)
           (tale_stops p ex w.plan w.steps count n (with_more zero_first h) (a.same zero_first ∙ f []))
-      receive_by aw (r_ends k y z s is e f) = by_cost (nat_lt k n) refl
+      receive_by aw (r_ends k y z s is e f too) = by_cost (nat_lt k n) refl
         where
           by_cost : (b : Bool) → nat_lt k n ≡ b → Turned
           by_cost true paid =
               received_end aw y z is e
               (tale_goes p ex w.plan w.steps count n (with_more zero_first h) k (y ∷ z ∷ []) (over s) (a.same zero_first ∙ f []) paid
               ∙ ap (λ (l : List Note). y ∷ z ∷ l) (tale_over p ex w.plan w.steps count (n - suc k) s))
+              (λ v more.
+              let d = too v in (
+                d.other,
+                tale_goes p ex w.plan w.steps count n (with_more (mailed (Some (V.I32 v)) 1 ∷ more) h) k (y ∷ d.other ∷ []) (over s) (a.same (mailed (Some (V.I32 v)) 1 ∷ more) ∙ d.made more) paid
+                    ∙ ap (λ (l : List Note). y ∷ d.other ∷ l) (tale_over p ex w.plan w.steps count (n - suc k) s),
+                d.same,
+              ))
           by_cost false dear =
               spent_turn part os lines m so h no_h zero_first (still_tells w (suc count) n (with_more zero_first h)) (st zero_first)
               (tale_dear p ex w.plan w.steps count n (with_more zero_first h) k (y ∷ z ∷ []) (over s) (a.same zero_first ∙ f []) dear)
@@ -434,7 +492,9 @@ module _ (w : Program) (i : ℕ) (t : Teller) (tellers : List Teller) (begin : A
               (a.same (mailed (Some (V.I32 v)) 1 ∷ more) ∙ f v more) paid
 
           by_unread : nat_lt k n ≡ true → Unread p ex w.plan w.steps (λ (v : ℕ) (more : List Outcome). still_tells w count (n - suc k) (with_more more (unwound u v))) count → Turned
-          by_unread paid (then_ends z e g) = received_end aw y z is e (goes_so paid 0 [] ∙ ap (λ (l : List Note). y ∷ l) (g 0 []))
+          by_unread paid (then_ends z e g) =
+              received_end aw y z is e (goes_so paid 0 [] ∙ ap (λ (l : List Note). y ∷ l) (g 0 []))
+              (λ v more. (z, goes_so paid v more ∙ ap (λ (l : List Note). y ∷ l) (g v more), λ q. refl))
           by_unread paid (then_pauses z r c2 n2 e no_r small g) =
               let ends = pause_ends z.event e in
               receive_turn part os lines m so y z call is aw ends.0 ends.1 (pause_calm z.event e)
@@ -478,6 +538,6 @@ module _ (w : Program) (i : ℕ) (t : Teller) (tellers : List Teller) (begin : A
       loop limit s.n s.h s.not_over [] [] t.answers begin (nothing none posted) (omega arith) s.story
     where
       nothing : begin.receive ≡ None → Posted tellers begin → Sofar [] [] t.answers begin
-      nothing none posted = record { plain = tt; calls = λ will small keeps. (refl, refl, refl); none = none; posted = posted }
+      nothing none posted = record { plain = tt; calls = λ will small keeps. (refl, refl, refl); none = none; known = (refl, refl, refl); posted = posted }
   turn_from none posted (only_ends xs x pl e story) =
-      end_turn [] [] t.answers begin (record { plain = tt; calls = λ will small keeps. (refl, refl, refl); none = none; posted = posted }) xs x pl e [] (story [])
+      end_turn [] [] t.answers begin (record { plain = tt; calls = λ will small keeps. (refl, refl, refl); none = none; known = (refl, refl, refl); posted = posted }) xs x pl e [] (story [])

@@ -417,7 +417,7 @@ module _ (p : Module) (x : Exports) (plan : Plan) where
             → Walked os h t cost notes
         by_receive none call f same (r_stops q) =
             absurd (stops_not (sym (q more) ∙ sym (same u) ∙ ap (λ (l : List Outcome). next (meeting (l ++ a_u ∷ more) h)) (sym none) ∙ here))
-        by_receive none call f same (r_ends j y1 y2 s called_y end_y q) =
+        by_receive none call f same (r_ends j y1 y2 s called_y end_y q too) =
             let eq : goes j (y1 ∷ y2 ∷ []) (over s) ≡ goes k es z = sym (q more) ∙ sym (same u) ∙ ap (λ (l : List Outcome). next (meeting (l ++ a_u ∷ more) h)) (sym none) ∙ here in
             let quiet : fs ≡ [] = over_stays z t s n fs (sym (goes_to eq)) rest in
             let all : notes ≡ y1 ∷ y2 ∷ [] = g ∙ (λ i0. sym (goes_notes eq) i0 ++ quiet i0) in

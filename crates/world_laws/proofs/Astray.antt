@@ -30,7 +30,7 @@ use Rattle.world_laws.proofs.Places.{each_at, each_set}
 use Rattle.world_laws.proofs.Turns.{turn_parts}
 use Rattle.run_theory.specs.Growth.{Each}
 
-abbrev Right : Note → Type 0
+abbrev pub Right : Note → Type 0
 Right x = ends_astray x.event ≡ false
 
 -- ---- runs
@@ -78,10 +78,10 @@ module _ (room fit : List Suspended → ℕ) (len : ℕ) where
       by_pause None g = All-cons Right x (shown room fit len es) here g
       by_pause (Some ticks) g = by_room ticks (nat_lt len (room x.stack)) g
 
-expected_right : (m : Module) (s : Settings) (plan : Plan) (os : List Outcome) (n : ℕ) → All OutcomeFits os → All Right (expected_notes m s plan os n)
+pub expected_right : (m : Module) (s : Settings) (plan : Plan) (os : List Outcome) (n : ℕ) → All OutcomeFits os → All Right (expected_notes m s plan os n)
 expected_right m s plan os n h = shown_right (Room m s.policy) (λ stack. Fit m s.policy stack plan.area.len) plan.area.len (Blocking m plan os n).events (blocking_right m plan os n h)
 
-story_right : (s : Settings) (w : Program) (os : List Outcome) (notes : List Note) → BlockingStory s w os notes → All OutcomeFits os → All Right notes
+pub story_right : (s : Settings) (w : Program) (os : List Outcome) (notes : List Note) → BlockingStory s w os notes → All OutcomeFits os → All Right notes
 story_right s w os notes (whole x before ns e f g) h = subst (All Right) (sym e) (expected_right w.source s w.plan os w.steps h)
 story_right s w os notes (spent j before ns at e f lives uncertain moment g) h =
     subst (All Right) (sym g)
@@ -89,7 +89,7 @@ story_right s w os notes (spent j before ns at e f lives uncertain moment g) h =
     (subst (All Right) (sym e) (All-take Right j (expected_notes w.source s w.plan os w.steps) (expected_right w.source s w.plan os w.steps h)))
     (one_note (note (ended (StepsSpent w.steps)) at) refl))
 
-beside_right : (globals : ℕ) (area : Area) (xs ys : List Note) → AllZip (SameMoment globals area) xs ys → All Right xs → All Right ys
+pub beside_right : (globals : ℕ) (area : Area) (xs ys : List Note) → AllZip (SameMoment globals area) xs ys → All Right xs → All Right ys
 beside_right globals area [] [] h k = no_notes
 beside_right globals area [] (y ∷ ys) h k = absurd h
 beside_right globals area (x ∷ xs) [] h k = absurd h
@@ -115,13 +115,13 @@ actor_right o w a st may held meets ord =
 
 -- ---- lines
 
-abbrev RightLine : Line → Type 0
+abbrev pub RightLine : Line → Type 0
 RightLine l = ends_astray l.event ≡ false
 
-abbrev RightEvent : Event → Type 0
+abbrev pub RightEvent : Event → Type 0
 RightEvent e = ends_astray e ≡ false
 
-looks_right : (s : Store) (looks : List Look) → All RightEvent (look_events s looks)
+pub looks_right : (s : Store) (looks : List Look) → All RightEvent (look_events s looks)
 looks_right s [] = All-nil RightEvent
 looks_right s (l ∷ ls) = All-cons RightEvent (was_shown l.at (bytes_shown s.memory l)) (look_events s ls) refl (looks_right s ls)
 
@@ -134,7 +134,7 @@ after_right looks x (ended how) = looks_right x.store looks
 after_right looks x (parked used) = All-nil RightEvent
 after_right looks x (was_shown at bytes) = All-nil RightEvent
 
-events_right : (looks : List Look) (xs : List Note) → All Right xs → All RightEvent (events_with_looks looks xs)
+pub events_right : (looks : List Look) (xs : List Note) → All Right xs → All RightEvent (events_with_looks looks xs)
 events_right looks [] h = All-nil RightEvent
 events_right looks (x ∷ xs) h =
     All-append RightEvent (x.event ∷ looks_after looks x x.event) (events_with_looks looks xs)
@@ -144,7 +144,7 @@ lines_right : (due number : ℕ) (es : List Event) → All RightEvent es → All
 lines_right due number [] h = All-nil RightLine
 lines_right due number (e ∷ es) h = All-cons RightLine (line_at due number e) (map (line_at due number) es) (All-head RightEvent e es h) (lines_right due number es (All-tail RightEvent e es h))
 
-front_right : (xs ys : List Note) → All Right (xs ++ ys) → All Right xs × All Right ys
+pub front_right : (xs ys : List Note) → All Right (xs ++ ys) → All Right xs × All Right ys
 front_right [] ys h = (no_notes, h)
 front_right (x ∷ xs) ys h =
     let r = front_right xs ys (All-tail Right x (xs ++ ys) h) in

@@ -105,22 +105,12 @@ pub no_fault_behind : (w : Program) (pre os : List Outcome) (done : List Note) (
     → protocol_story w (pre ++ given a ∷ os) ≡ done ++ x ∷ n → x.event ≡ called c → Opens n
 no_fault_behind w pre os done x c n a count e is = opens_behind pre os done x n c a count is (subst (Inner (pre ++ given a ∷ os)) e (story_fine w (pre ++ given a ∷ os)))
 
--- behind a call that is refused comes that end
-pub refusal_behind : (w : Program) (pre os : List Outcome) (done : List Note) (y : Note) (c : Call) (n : List Note) (e : End) → new_calls done ≡ length pre
-    → protocol_story w (pre ++ refused e ∷ os) ≡ done ++ y ∷ n → y.event ≡ called c → new_calls (y ∷ n) ≤ length (refused e ∷ os)
+-- where a refusal tells something that its story without it doesn't, that end comes behind its call
+refused_so : (w : Program) (pre os : List Outcome) (done : List Note) (y : Note) (c : Call) (n : List Note) (e : End) → new_calls done ≡ length pre
+    → protocol_story w (pre ++ refused e ∷ os) ≡ done ++ y ∷ n → y.event ≡ called c → (protocol_story w (pre ++ refused e ∷ os) ≡ protocol_story w pre → ⊥)
     → (s : Store) × (zs : List Note) × (n ≡ note (ended e) s ∷ zs)
-refusal_behind w pre os done y c n e count from is few = by_way (story_forks w pre (refused e ∷ os))
+refused_so w pre os done y c n e count from is differs = by_way (story_forks w pre (refused e ∷ os))
   where
-    standing : protocol_story w (pre ++ refused e ∷ os) ≡ protocol_story w pre → (new_calls (protocol_story w pre) ≤ length pre) ⊎ Stands (length pre) (protocol_story w pre) → ⊥
-    standing same (inl le) =
-        let all = ap new_calls (sym same ∙ from) ∙ one_more done y c n is in
-        omega (arith, all, le, count)
-    standing same (inr s) =
-        let all = ap new_calls from ∙ calls_on done (y ∷ n) in
-        let len = length-append pre (refused e ∷ os) in
-        let ends : Ends (s.before ++ s.last ∷ []) = story_ends_so w (pre ++ refused e ∷ os) s.before s.last (omega arith) (same ∙ s.split) in
-        call_no_end s.last.event s.call s.is (end_is_last s.before s.last ends)
-
     at_fork : (f : StoryForks (refused e ∷ os) (length pre) (protocol_story w (pre ++ refused e ∷ os)) (protocol_story w pre)) (r : List Note) → f.before ≡ done ++ r
         → (s : Store) × (zs : List Note) × (n ≡ note (ended e) s ∷ zs)
     at_fork f [] b =
@@ -138,11 +128,53 @@ refusal_behind w pre os done y c n e count from is few = by_way (story_forks w p
 
     by_way : (protocol_story w (pre ++ refused e ∷ os) ≡ protocol_story w pre) ⊎ StoryForks (refused e ∷ os) (length pre) (protocol_story w (pre ++ refused e ∷ os)) (protocol_story w pre)
         → (s : Store) × (zs : List Note) × (n ≡ note (ended e) s ∷ zs)
-    by_way (inl same) = absurd (standing same (story_counts w pre))
+    by_way (inl same) = absurd (differs same)
     by_way (inr f) =
         let k = f.count in
         let r = begins_before done (y ∷ n) f.before f.more f.there f.same.2 (sym from ∙ f.second) (f.same.0 ∙ f.same.3) (omega arith) in
         at_fork f r.0 r.1
+
+-- behind a call that is refused comes that end
+pub refusal_behind : (w : Program) (pre os : List Outcome) (done : List Note) (y : Note) (c : Call) (n : List Note) (e : End) → new_calls done ≡ length pre
+    → protocol_story w (pre ++ refused e ∷ os) ≡ done ++ y ∷ n → y.event ≡ called c → new_calls (y ∷ n) ≤ length (refused e ∷ os)
+    → (s : Store) × (zs : List Note) × (n ≡ note (ended e) s ∷ zs)
+refusal_behind w pre os done y c n e count from is few = refused_so w pre os done y c n e count from is (λ same. standing same (story_counts w pre))
+  where
+    standing : protocol_story w (pre ++ refused e ∷ os) ≡ protocol_story w pre → (new_calls (protocol_story w pre) ≤ length pre) ⊎ Stands (length pre) (protocol_story w pre) → ⊥
+    standing same (inl le) =
+        let all = ap new_calls (sym same ∙ from) ∙ one_more done y c n is in
+        omega (arith, all, le, count)
+    standing same (inr s) =
+        let all = ap new_calls from ∙ calls_on done (y ∷ n) in
+        let len = length-append pre (refused e ∷ os) in
+        let ends : Ends (s.before ++ s.last ∷ []) = story_ends_so w (pre ++ refused e ∷ os) s.before s.last (omega arith) (same ∙ s.split) in
+        call_no_end s.last.event s.call s.is (end_is_last s.before s.last ends)
+
+-- so it does where anything comes behind the call
+pub refusal_next : (w : Program) (pre os : List Outcome) (done : List Note) (y : Note) (c : Call) (z : Note) (n : List Note) (e : End) → new_calls done ≡ length pre
+    → protocol_story w (pre ++ refused e ∷ os) ≡ done ++ y ∷ z ∷ n → y.event ≡ called c → (s : Store) × (zs : List Note) × (z ∷ n ≡ note (ended e) s ∷ zs)
+refusal_next w pre os done y c z n e count from is = refused_so w pre os done y c (z ∷ n) e count from is (λ same. standing same (story_counts w pre))
+  where
+    at_last : (s : Stands (length pre) (protocol_story w pre)) → protocol_story w (pre ++ refused e ∷ os) ≡ protocol_story w pre → (r : List Note) → s.before ≡ done ++ r → ⊥
+    at_last s same [] b =
+        let split : done ++ y ∷ z ∷ n ≡ done ++ s.last ∷ [] = sym from ∙ same ∙ s.split ∙ ap (λ (ns : List Note). ns ++ s.last ∷ []) (b ∙ append-nil done) in
+        let none : z ∷ n ≡ [] = (front_same done (z ∷ n) [] y s.last split).1 in cc
+    at_last s same (v ∷ r) b =
+        let split : done ++ y ∷ z ∷ n ≡ done ++ v ∷ (r ++ s.last ∷ []) =
+        sym from ∙ same ∙ s.split ∙ ap (λ (ns : List Note). ns ++ s.last ∷ []) b ∙ append_assoc done (v ∷ r) (s.last ∷ []) in
+        let first : y ≡ v = (front_same done (z ∷ n) (r ++ s.last ∷ []) y v split).0 in
+        let here : v.event ≡ called c = ap (λ (u : Note). u.event) (sym first) ∙ is in
+        let all = ap new_calls b ∙ one_more done v c r here in
+        let k = s.count in omega (arith, all, k, count)
+
+    standing : protocol_story w (pre ++ refused e ∷ os) ≡ protocol_story w pre → (new_calls (protocol_story w pre) ≤ length pre) ⊎ Stands (length pre) (protocol_story w pre) → ⊥
+    standing same (inl le) =
+        let all = ap new_calls (sym same ∙ from) ∙ one_more done y c (z ∷ n) is in
+        omega (arith, all, le, count)
+    standing same (inr s) =
+        let k = s.count in
+        let r = begins_before done (y ∷ z ∷ n) s.before [] s.last s.call (sym from ∙ same ∙ s.split) s.is (omega (arith, k, count)) in
+        at_last s same r.0 r.1
 
 -- ---- one call in two runs
 

@@ -61,7 +61,7 @@ other_taken name device (d ∷ ds) other = by_name (is_named device d) refl (oth
         sym (ap (λ (b : Bool). if b then Some d.journal else journal_of name ds) not_it)
     by_name false e ih = ap (λ (o : Option (List Asked)). if is_named name d then Some d.journal else o) ih
 
-other_detached : (name : List ℕ) (number : ℕ) (xs : List Detach) (ds : List Device) → All (λ (x : Detach). same_name x.device name ≡ false) xs
+pub other_detached : (name : List ℕ) (number : ℕ) (xs : List Detach) (ds : List Device) → All (λ (x : Detach). same_name x.device name ≡ false) xs
     → journal_of name (detached number xs ds) ≡ journal_of name ds
 other_detached name number [] ds h = refl
 other_detached name number (x ∷ xs) ds h =
@@ -132,7 +132,7 @@ Replied base name args ds o ds' =
     (r : Reply) × ValueFits r.value × (r.ticks < 2 ^ 32) × (o ≡ given (record { said = S.Value r.value; pokes = []; ticks = r.ticks }))
     × (ds' ≡ journaled name (record { base = base; args = args; reply = r }) ds)
 
-meets_grow : (w : Program) (name : List ℕ) (import : ℕ) (args : List Value) (lines : List AnswerLine) (ds : List Device) (o : Outcome) (lines' : List AnswerLine) (ds' : List Device)
+pub meets_grow : (w : Program) (name : List ℕ) (import : ℕ) (args : List Value) (lines : List AnswerLine) (ds : List Device) (o : Outcome) (lines' : List AnswerLine) (ds' : List Device)
     → Meets w import args lines ds o lines' ds' → Grows name ds ds'
 meets_grow w name import args lines ds o lines' ds' h = by_bound (unwrap_or (slice_get w.binds import) None) h
   where

@@ -20,11 +20,11 @@ same_prefix j = ([], sym (append-nil j))
 prefix_on : (a b c : List Asked) → IsPrefix a b → IsPrefix b c → IsPrefix a c
 prefix_on a b c h k = (h.0 ++ k.0, k.1 ∙ ap (λ (j : List Asked). j ++ k.0) h.1 ∙ append_assoc a h.0 k.0)
 
-all_kept : (ds : List Device) → Kept ds ds
+pub all_kept : (ds : List Device) → Kept ds ds
 all_kept [] = no_device
 all_kept (d ∷ ds) = still_there refl (same_prefix d.journal) (all_kept ds)
 
-kept_on : (as_were are will_be : List Device) → Kept as_were are → Kept are will_be → Kept as_were will_be
+pub kept_on : (as_were are will_be : List Device) → Kept as_were are → Kept are will_be → Kept as_were will_be
 kept_on [] are will_be no_device k = k
 kept_on (d ∷ ds) are will_be (taken_away h) k = taken_away (kept_on ds are will_be h k)
 kept_on (d ∷ ds) (e ∷ es) will_be (still_there n p h) (taken_away k) = taken_away (kept_on ds es will_be h k)
@@ -38,7 +38,7 @@ taken_kept name (d ∷ ds) = by_name (is_named name d) (taken_kept name ds)
     by_name true h = taken_away (all_kept ds)
     by_name false h = still_there refl (same_prefix d.journal) h
 
-detached_kept : (number : ℕ) (xs : List Detach) (ds : List Device) → Kept ds (detached number xs ds)
+pub detached_kept : (number : ℕ) (xs : List Detach) (ds : List Device) → Kept ds (detached number xs ds)
 detached_kept number [] ds = all_kept ds
 detached_kept number (x ∷ xs) ds =
     kept_on ds (detached_if (nat_eq x.before number) x.device ds) (detached number xs (detached_if (nat_eq x.before number) x.device ds)) (by_number (nat_eq x.before number))
@@ -59,16 +59,16 @@ journaled_kept name call (d ∷ ds) = by_name (is_named name d) (journaled_kept 
     by_name false h = (still_there refl (same_prefix d.journal) h.0, ap suc h.1)
 
 -- kept, and as many
-abbrev Stay : List Device → List Device → Type 0
+abbrev pub Stay : List Device → List Device → Type 0
 Stay ds es = Kept ds es × (length es ≡ length ds)
 
-stay_same : (ds es : List Device) → es ≡ ds → Stay ds es
+pub stay_same : (ds es : List Device) → es ≡ ds → Stay ds es
 stay_same ds es e = subst (Stay ds) (sym e) (all_kept ds, refl)
 
-stay_on : (ds es fs : List Device) → Stay ds es → Stay es fs → Stay ds fs
+pub stay_on : (ds es fs : List Device) → Stay ds es → Stay es fs → Stay ds fs
 stay_on ds es fs h k = (kept_on ds es fs h.0 k.0, k.1 ∙ h.1)
 
-meets_stay : (w : Program) (import : ℕ) (args : List Value) (lines : List AnswerLine) (ds : List Device) (o : Outcome) (lines' : List AnswerLine) (ds' : List Device)
+pub meets_stay : (w : Program) (import : ℕ) (args : List Value) (lines : List AnswerLine) (ds : List Device) (o : Outcome) (lines' : List AnswerLine) (ds' : List Device)
     → Meets w import args lines ds o lines' ds' → Stay ds ds'
 meets_stay w import args lines ds o lines' ds' h = by_bound (unwrap_or (slice_get w.binds import) None) h
   where

@@ -30,7 +30,7 @@ turn_front x xs = by_end (ends_turn x.event) refl
     by_end true e = ([], (turn_ends x xs e).0)
     by_end false e = (turn_of xs, (turn_goes x xs e).0)
 
-call_is : (e : Event) (c : Call) → call_in e ≡ Some c → e ≡ called c
+pub call_is : (e : Event) (c : Call) → call_in e ≡ Some c → e ≡ called c
 call_is (called d) c h = ap called (same d c h)
   where
     same : (x y : Call) → Some x ≡ Some y → x ≡ y
@@ -43,7 +43,7 @@ call_is (parked used) c h = cc
 call_is (shown at bytes) c h = cc
 
 -- an event that ends no turn shows nothing
-shows_none : (looks : List Look) (x : Note) (e : Event) → ends_turn e ≡ false → looks_after looks x e ≡ []
+pub shows_none : (looks : List Look) (x : Note) (e : Event) → ends_turn e ≡ false → looks_after looks x e ≡ []
 shows_none looks x (called c) h = refl
 shows_none looks x (answered v) h = refl
 shows_none looks x (paused t u) h = refl
