@@ -31,7 +31,7 @@ SameWrongs lines1 lines2 = (i : ℕ) (x y : Line) → slice_get lines1 i ≡ Som
 abbrev pub IsNoBox : (name : List ℕ) → (boxes : List (List ℕ)) → Type 0
 IsNoBox name boxes = list_any (λ (box : List ℕ). same_name box name) boxes ≡ false
 
--- Some import of these programs is bound to a name that no mailbox has, and so to a device.
+-- Some import of these programs is bound to a name that no mailbox has: if to anything, to a device.
 pub record AsksDevice (programs : List Program) (boxes : List (List ℕ)) : Type 0 where
   pub i : ℕ
   pub w : Program
@@ -46,7 +46,7 @@ abbrev pub LastingDevices : List Program → List Detach → (boxes : List (List
 LastingDevices programs detaches boxes = (asks : AsksDevice programs boxes) → All (λ (x : Detach). same_name x.device asks.name ≡ false) detaches
 
 -- Two runs of one world, of which no device that an import is bound to is taken out, that end with the same devices, journals included, and
--- tell faults and values of a wrong type at the same places, have the same lines. (A receive at an empty mailbox by an import whose result
+-- tell faults at the same places, and the same values of a wrong type at the same places, have the same lines. (A receive at an empty mailbox by an import whose result
 -- isn't an i32 ends its program at once, and that end tells a value which nobody has sent: nothing else fixes it.)
 abbrev pub JournalsFixLines : Type 0
 JournalsFixLines =

@@ -13,8 +13,8 @@
 //! (`specs/MailOriginals.antt`), and none of these goes astray (`specs/Astray.antt`). Without mailboxes the runs of both worlds are those of
 //! `world_model` (`specs/WithoutBoxes.antt`).
 //!
-//! The journals of the devices at a run's end, and the places at which its lines tell that a device failed or a value of a wrong type, fix all
-//! its lines; a world whose imports are bound to mailboxes alone has one run, but for such values (`specs/Replays.antt`). The outcomes of
+//! The journals of the devices at a run's end, the places at which its lines tell that a device failed, and the values of a wrong type that they
+//! tell, with their places, fix all its lines; a world whose imports are bound to mailboxes alone has one run, but for such values (`specs/Replays.antt`). The outcomes of
 //! calls fix them always (`specs/Determined.antt`). The devices at the end are those of the start, but for those that were taken out
 //! (`specs/Kept.antt`). A program without bound imports has the lines that it would have alone (`specs/AloneLines.antt`).
 //!

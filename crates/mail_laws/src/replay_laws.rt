@@ -3,7 +3,8 @@
 ghost use Rattle.mail_laws.specs.Determined.{MetFixLines};
 ghost use Rattle.mail_laws.specs.Replays.{JournalsFixLines, MailboxesFixLines, UnboundFixLines};
 
-/// Two runs of one world that end with the same journals, and tell faults and values of a wrong type at the same places, have the same lines.
+/// Two runs of one world that end with the same journals, and tell faults at the same places and there the same values of a wrong type, have the
+/// same lines.
 pub fn journals_with_mail_fix_lines()
     ensures { JournalsFixLines }
 {}
