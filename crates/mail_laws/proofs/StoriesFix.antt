@@ -13,16 +13,16 @@ use Rattle.wa_model.specs.Plan.{Outcome, given, refused}
 use Rattle.wa_model.specs.declared.answers.Said.{Said}
 use Rattle.wa_model.specs.declared.answers.Said.TheVariants as S
 use Rattle.wa_model.specs.Blocking.{Note}
-use Rattle.world_model.specs.World.{Device, Original, Program, base_names, behind_turn, call_in, detached, events_with_looks, import_names, line_at, look_events, name_at, put_off, turn_of}
+use Rattle.world_model.specs.World.{Device, Original, Program, base_names, behind_turn, call_in, events_with_looks, import_names, line_at, look_events, name_at, put_off, turn_of}
 use Rattle.world_laws.specs.Originals.{new_calls, one_if}
 use Rattle.world_laws.proofs.Determined.{device_fixes, line_fixes}
-use Rattle.world_laws.proofs.Places.{all_at, item, set_here, set_there, zip_at, zip_both}
+use Rattle.world_laws.proofs.Places.{all_at, item, set_here, set_there, zip_both}
 use Rattle.world_laws.proofs.Shows.{turn_calls}
 use Rattle.world_laws.proofs.Worlds.{take_first}
 use Rattle.mail_laws.specs.Determined.{SameStories, StoriesFixLines}
 use Rattle.mail_laws.specs.MailOriginals.{met}
-use Rattle.mail_laws.specs.Mailboxes.{CallsMeet, Mailbox, Meets, MeetsBound, MeetsBox, MeetsNamed, MeetsValues, Midst, NoteMeets, Receive, Shared, is_box, mailed}
-use Rattle.mail_laws.specs.MailWorld.{Actor, BlockingWorld, Events, HasEnded, IsNext, IsOver, IsReady, Parked, Plays, Stalls, StartsOriginal, TakesTurn, a_stall, a_turn, an_event, begun_event, no_event, nobody, parked_at, parks, sharing, store_behind, told_pause, turn_lines, wake, with_waiting, woken}
+use Rattle.mail_laws.specs.Mailboxes.{CallsMeet, Mailbox, Meets, MeetsBound, MeetsBox, MeetsNamed, MeetsValues, Midst, NoteMeets, Shared, is_box, mailed}
+use Rattle.mail_laws.specs.MailWorld.{Actor, Events, HasEnded, IsNext, IsOver, IsReady, Parked, Plays, Stalls, StartsOriginal, TakesTurn, a_stall, a_turn, an_event, begun_event, no_event, nobody, parked_at, parks, sharing, store_behind, told_pause, wake, with_waiting, woken}
 use Rattle.mail_laws.proofs.CallsInRange.{EachMet, Met, events_met}
 
 -- ---- calls that meet the same outcomes
