@@ -29,6 +29,7 @@ pub mod SameWorlds
 pub mod SendingRun
 pub mod Stalling
 pub mod StallsMet
+pub mod StoriesFix
 pub mod Tales
 pub mod ToldAreWorlds
 pub mod TurnsFollowed

@@ -1,6 +1,6 @@
 //! Laws of worlds with mailboxes that are told again by what was kept of them.
 
-ghost use Rattle.mail_laws.specs.Determined.{MetFixLines};
+ghost use Rattle.mail_laws.specs.Determined.{MetFixLines, StoriesFixLines};
 ghost use Rattle.mail_laws.specs.Replays.{JournalsFixLines, MailboxesFixLines, UnboundFixLines};
 
 /// Two runs of one world that end with the same journals, and tell faults at the same places and there the same values of a wrong type, have the
@@ -15,7 +15,9 @@ pub fn mailboxes_fix_lines()
     ensures unbound { UnboundFixLines }
 {}
 
-/// The outcomes that the programs' calls have met fix the lines of a world with mailboxes.
+/// The outcomes that the programs' calls have met fix the lines of a world with mailboxes; in the blocking world the programs' notes do beside
+/// them.
 pub fn met_outcomes_with_mail_fix_lines()
-    ensures { MetFixLines }
+    ensures protocol { MetFixLines }
+    ensures blocking { StoriesFixLines }
 {}
