@@ -10,6 +10,7 @@ pub mod Fronts
 pub mod GoingOn
 pub mod Holding
 pub mod Hosting
+pub mod Mailings
 pub mod Making
 pub mod Outcomes
 pub mod MemoryGrows

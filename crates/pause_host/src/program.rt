@@ -3,7 +3,12 @@
 ghost use Rattle.std.specs.Prelude.{◌≡◌, ◌<◌, ◌≤◌, ◌+◌, ◌*◌, ◌++◌, ◌^◌, [], ◌∷◌, ℕ, List, IfOk, IsErr, IfErr, IfSome, None, Ok, Some, length, map, min};
 ghost use Rattle.std.specs.Option.{option_copied, option_map};
 ghost use Rattle.wa_types.specs.Memory.{page_size};
+ghost use Rattle.wa_model.specs.View.{event_of};
 ghost use Rattle.world_model.specs.World.{bytes_shown};
+ghost use Rattle.mail_laws.specs.Told.{Await};
+ghost use Rattle.mail_laws.specs.MailWorld.{told_pause};
+ghost use Rattle.pause_host.specs.declared.stages.Setting.{Setting as SettingValue};
+ghost use Rattle.pause_host.specs.Mailing.{awaits_in, latest};
 
 use crate::ends::copy_end;
 use crate::entries::entry_calls;
@@ -11,10 +16,11 @@ use crate::events::next_event;
 use crate::plan::Plan;
 use crate::running::{start, told};
 use crate::setting::setting_of;
-use crate::stages::{Left, Setting, Stage};
+use crate::stages::{Heard, Left, Setting, Stage};
 use device_port::Devices;
 use host_setup::{SetupFault, set_up};
 use interp::{Instance, MakeFault, Steps};
+use mailbox_device::Mailboxes;
 use snapshot_store::PausedParts;
 use std::alloc::{AllocError, Global};
 use std::collections::VecDeque;
@@ -35,7 +41,8 @@ pub(crate) enum State<'m> {
     Lost,
 }
 
-/// A program: a plan over a prepared module, on its way, with what is left of the plan. It was given so many answer lines.
+/// A program: a plan over a prepared module, on its way, with what is left of the plan, and the import of its receive that wasn't
+/// answered, where there is one. It was given so many answer lines.
 pub struct Program<'m> {
     pub(crate) valid: &'m Valid,
     pub(crate) globals: Vec<Value>,
@@ -43,13 +50,13 @@ pub struct Program<'m> {
     pub(crate) left: Left,
     pub(crate) given: usize,
     pub(crate) steps_left: u64,
+    pub(crate) receive: Option<u32>,
     pub(crate) state: State<'m>,
 }
 
 impl<'m> Program<'m> {
     ghost use Rattle.wa_model.specs.declared.events.End.{End};
     ghost use Rattle.wa_model.specs.Outside.{ended};
-    ghost use Rattle.wa_model.specs.View.{event_of};
     ghost use Rattle.wa_model.specs.Blocking.{Note, no_store, note};
     ghost use Rattle.wa_model.specs.Protocol.{over, starting};
     ghost use Rattle.wa_model.specs.Plan.{Outcome};
@@ -59,6 +66,7 @@ impl<'m> Program<'m> {
     ghost use Rattle.interp_state.specs.Faults.{FailsAs};
     ghost use Rattle.interp.specs.Host.{code_in, store_in};
     ghost use Rattle.device_port.specs.Listed.{of_all};
+    ghost use Rattle.mailbox_device.specs.Mail.{Mail};
     ghost use Rattle.host_laws.specs.Places.{stands};
     ghost use Rattle.host_setup.specs.SetUp.{set_up};
     ghost use Rattle.host_setup.specs.Views.{Blames};
@@ -67,7 +75,7 @@ impl<'m> Program<'m> {
     ghost use Rattle.pause_host.specs.Views.{end_of, left_of};
     ghost use Rattle.snapshot_store.specs.Views.{parts_of};
     ghost use Rattle.pause_host.specs.Parting.{memory_if, parts_in};
-    ghost use Rattle.pause_host.specs.Programs.{Advances, AdvancesAlone, Follows, FollowsAlone, FollowsAt, IsOnItsWay, IsPlan, OnItsWay, RunsCode, SetsUp, ended_as, memory_in, named_entries, place_of, source_of, supply_of, supply_with};
+    ghost use Rattle.pause_host.specs.Programs.{Advances, AdvancesAlone, Follows, FollowsAlone, FollowsAt, IsOnItsWay, IsPlan, MailAdvances, OnItsWay, RunsCode, SetsUp, TellsNext, ended_as, mail_supply_of, mail_supply_with, memory_in, named_entries, parked_in, place_of, source_of, supply_of};
 
     /// A program of a plan, before its instantiation, or the first fault of the plan.
     pub fn new(alloc: Global, plan: Plan<'m>) -> Result<Program<'m>, SetupFault>
@@ -108,14 +116,41 @@ impl<'m> Program<'m> {
             },
             given,
             steps_left: steps,
+            receive: None,
             state: State::Fresh,
         })
     }
 
-    /// The next event of the run under the protocol. A new call of an import that is bound to a device asks the first device of
-    /// that name, once, and any other new call takes an answer line. After the end it is the end again, and no device is asked.
-    /// After want of memory it isn't called again.
-    pub fn advance(&mut self, devices: &mut Devices<'_>) -> Result<Event, AllocError>
+    /// The next event of the run under the protocol. A new call of an import that is bound to a name asks the mailbox of that name,
+    /// where there is one, else the first device of the name, once; any other new call takes an answer line. A receive at an empty
+    /// mailbox runs up to its pause, which is told as parking. After the end it is the end again, and nothing is asked. After want of
+    /// memory it isn't called again.
+    pub fn advance(
+        &mut self,
+        devices: &mut Devices<'_>,
+        mail: &mut Mailboxes,
+    ) -> Result<Event, AllocError>
+        requires lent { IsLent }
+        requires goes { IsOnItsWay self.old }
+        requires awake { parked_in self.old ≡ None }
+        ensures next { (w : WorldProgram) (notes : List Note) (os : List Outcome) → Follows w notes os self.old → ended_as self.old ≡ None
+            → IfOk result (λ event. TellsNext w notes os (event_of event) (mail_supply_of seen faults self.old devices.old mail.old) (mail_supply_of seen faults self.new devices.new mail.new)
+            self.new) }
+        ensures again { (how : End) → ended_as self.old ≡ Some how
+            → IfOk result (λ event. (event_of event ≡ ended how) × (self.new ≡ self.old) × (devices.new ≡ devices.old) × (mail.new ≡ mail.old)) }
+        ensures kept { IsErr result → of_all seen devices.new ≡ of_all seen devices.old }
+        ensures once { IsErr result → RisesAtMostOne (of_all faults devices.old) (of_all faults devices.new) }
+        ensures mail { IsErr result → mail.new ≡ mail.old }
+        ensures same_list { devices.new.list.ghost_name ≡ devices.old.list.ghost_name }
+    {
+        let event = self.step(devices, mail)?;
+        Ok(told_event(self.receive, event))
+    }
+
+    /// The next event of the run under the protocol, where there are no mailboxes. A new call of an import that is bound to a name
+    /// asks the first device of that name, once, and any other new call takes an answer line. After the end it is the end again, and
+    /// no device is asked. After want of memory it isn't called again.
+    pub fn advance_without_mail(&mut self, devices: &mut Devices<'_>) -> Result<Event, AllocError>
         requires lent { IsLent }
         requires goes { IsOnItsWay self.old }
         ensures next { (w : WorldProgram) (notes : List Note) (os : List Outcome) → Follows w notes os self.old → ended_as self.old ≡ None
@@ -125,9 +160,26 @@ impl<'m> Program<'m> {
         ensures once { IsErr result → RisesAtMostOne (of_all faults devices.old) (of_all faults devices.new) }
         ensures same_list { devices.new.list.ghost_name ≡ devices.old.list.ghost_name }
     {
+        let alloc = self.setting.alloc;
+        let mut none = Mailboxes::new(alloc, Vec::new(alloc))?;
+        self.step(devices, &mut none)
+    }
+
+    // The next event of the run, a pause also where it parks the program.
+    fn step(&mut self, devices: &mut Devices<'_>, mail: &mut Mailboxes) -> Result<Event, AllocError>
+        requires goes { IsOnItsWay self.old }
+        ensures next { (w : WorldProgram) (notes : List Note) (os : List Outcome) → Follows w notes os self.old → ended_as self.old ≡ None
+            → IfOk result (λ event. MailAdvances w notes os event (mail_supply_of seen faults self.old devices.old mail.old) (mail_supply_of seen faults self.new devices.new mail.new) self.new) }
+        ensures again { (how : End) → ended_as self.old ≡ Some how
+            → IfOk result (λ event. (event_of event ≡ ended how) × (self.new ≡ self.old) × (devices.new ≡ devices.old) × (mail.new ≡ mail.old)) }
+        ensures kept { IsErr result → of_all seen devices.new ≡ of_all seen devices.old }
+        ensures once { IsErr result → RisesAtMostOne (of_all faults devices.old) (of_all faults devices.new) }
+        ensures mail { IsErr result → mail.new ≡ mail.old }
+        ensures same_list { devices.new.list.ghost_name ≡ devices.old.list.ghost_name }
+    {
         match mem::replace(&mut self.state, State::Lost) {
-            State::Fresh => self.open(devices),
-            State::Live { instance, stage } => self.live(instance, stage, devices),
+            State::Fresh => self.open(devices, mail),
+            State::Live { instance, stage } => self.live(instance, stage, devices, mail),
             State::Failed(end) => self.fail(end),
             State::Lost => unreachable!(),
         }
@@ -140,20 +192,21 @@ impl<'m> Program<'m> {
         ensures again { (how : End) → ended_as self.old ≡ Some how → IfOk result (λ event. (event_of event ≡ ended how) × (self.new ≡ self.old)) }
     {
         let mut none = Vec::new(self.setting.alloc);
-        self.advance(&mut Devices::new(&mut none))
+        self.advance_without_mail(&mut Devices::new(&mut none))
     }
 
     // The module is instantiated, and its start function called where it has one.
-    fn open(&mut self, devices: &mut Devices<'_>) -> Result<Event, AllocError>
+    fn open(&mut self, devices: &mut Devices<'_>, mail: &mut Mailboxes) -> Result<Event, AllocError>
         requires { OnItsWay self.old (place_of self.old State.Fresh) State.Fresh }
         ensures next { (w : WorldProgram) (notes : List Note) (os : List Outcome) → FollowsAt w notes os self.old (place_of self.old State.Fresh)
-            → IfOk result (λ event. Advances w notes os event (supply_of seen faults self.old devices.old) (supply_of seen faults self.new devices.new) self.new) }
+            → IfOk result (λ event. MailAdvances w notes os event (mail_supply_of seen faults self.old devices.old mail.old) (mail_supply_of seen faults self.new devices.new mail.new) self.new) }
         ensures kept { IsErr result → of_all seen devices.new ≡ of_all seen devices.old }
         ensures once { IsErr result → RisesAtMostOne (of_all faults devices.old) (of_all faults devices.new) }
+        ensures mail { IsErr result → mail.new ≡ mail.old }
         ensures same_list { devices.new.list.ghost_name ≡ devices.old.list.ghost_name }
     {
         match Instance::make(self.setting.alloc, self.valid, &self.globals) {
-            Ok(instance) => self.opened(instance, devices),
+            Ok(instance) => self.opened(instance, devices, mail),
             Err(fault) => self.not_opened(fault),
         }
     }
@@ -162,27 +215,29 @@ impl<'m> Program<'m> {
         &mut self,
         instance: Instance<'m>,
         devices: &mut Devices<'_>,
+        mail: &mut Mailboxes,
     ) -> Result<Event, AllocError>
         requires code { code_in instance ≡ module_of self.old.valid.now }
         requires store { opening (module_of self.old.valid.now) self.old.globals.items ≡ opens (store_in instance) }
         requires goes { OnItsWay self.old (place_of self.old State.Fresh) State.Fresh }
         ensures next { (w : WorldProgram) (notes : List Note) (os : List Outcome) → code_in instance.entry ≡ module_of self.old.valid.now
             → opening (module_of self.old.valid.now) self.old.globals.items ≡ opens (store_in instance.entry) → FollowsAt w notes os self.old (place_of self.old State.Fresh)
-            → IfOk result (λ event. Advances w notes os event (supply_of seen faults self.old devices.old) (supply_of seen faults self.new devices.new) self.new) }
+            → IfOk result (λ event. MailAdvances w notes os event (mail_supply_of seen faults self.old devices.old mail.old) (mail_supply_of seen faults self.new devices.new mail.new) self.new) }
         ensures kept { IsErr result → of_all seen devices.new ≡ of_all seen devices.old }
         ensures once { IsErr result → RisesAtMostOne (of_all faults devices.old) (of_all faults devices.new) }
+        ensures mail { IsErr result → mail.new ≡ mail.old }
         ensures same_list { devices.new.list.ghost_name ≡ devices.old.list.ghost_name }
     {
         match self.valid.module().start {
-            None => self.go_on(instance, Stage::Free, devices),
-            Some(func) => self.begin(instance, func, devices),
+            None => self.go_on(instance, Stage::Free, devices, mail),
+            Some(func) => self.begin(instance, func, devices, mail),
         }
     }
 
     fn not_opened(&mut self, fault: MakeFault) -> Result<Event, AllocError>
-        ensures { (w : WorldProgram) (notes : List Note) (os : List Outcome) (ds : List Device) (counts : List ℕ)
+        ensures { (w : WorldProgram) (notes : List Note) (os : List Outcome) (ds : List Device) (counts : List ℕ) (mail : Mail)
             → FailsAs (opening (module_of self.old.valid.now) self.old.globals.items) fault → FollowsAt w notes os self.old (place_of self.old State.Fresh)
-            → IfOk result (λ event. Advances w notes os event (supply_with self.old ds counts) (supply_with self.new ds counts) self.new) }
+            → IfOk result (λ event. MailAdvances w notes os event (mail_supply_with self.old ds counts mail) (mail_supply_with self.new ds counts mail) self.new) }
     {
         match fault {
             MakeFault::Memory => Err(AllocError),
@@ -196,9 +251,9 @@ impl<'m> Program<'m> {
 
     // The program has ended without an instance.
     fn fail(&mut self, end: End) -> Result<Event, AllocError>
-        ensures next { (w : WorldProgram) (notes : List Note) (os : List Outcome) (ds : List Device) (counts : List ℕ)
+        ensures next { (w : WorldProgram) (notes : List Note) (os : List Outcome) (ds : List Device) (counts : List ℕ) (mail : Mail)
             → FollowsAt w notes os self.old (stands (note (ended end) no_store ∷ []) (over no_store))
-            → IfOk result (λ event. Advances w notes os event (supply_with self.old ds counts) (supply_with self.new ds counts) self.new) }
+            → IfOk result (λ event. MailAdvances w notes os event (mail_supply_with self.old ds counts mail) (mail_supply_with self.new ds counts mail) self.new) }
         ensures again { IfOk result (λ event. (event_of event ≡ ended end) × (self.new ≡ record self.old { state = State.Failed end })) }
     {
         let told = copy_end(self.setting.alloc, &end)?;
@@ -211,20 +266,22 @@ impl<'m> Program<'m> {
         instance: Instance<'m>,
         stage: Stage,
         devices: &mut Devices<'_>,
+        mail: &mut Mailboxes,
     ) -> Result<Event, AllocError>
         requires { OnItsWay self.old (place_of self.old (State.Live instance stage)) (State.Live instance stage) }
         ensures next { (w : WorldProgram) (notes : List Note) (os : List Outcome) → FollowsAt w notes os self.old (place_of self.old (State.Live instance.entry stage))
             → RunsCode w.source (State.Live instance.entry stage) → end_of stage ≡ None
-            → IfOk result (λ event. Advances w notes os event (supply_of seen faults self.old devices.old) (supply_of seen faults self.new devices.new) self.new) }
+            → IfOk result (λ event. MailAdvances w notes os event (mail_supply_of seen faults self.old devices.old mail.old) (mail_supply_of seen faults self.new devices.new mail.new) self.new) }
         ensures again { (how : End) → end_of stage ≡ Some how → IfOk result (λ event. (event_of event ≡ ended how)
-            × (self.new ≡ record self.old { state = (State.Live instance.entry stage) }) × (devices.new ≡ devices.old)) }
+            × (self.new ≡ record self.old { state = (State.Live instance.entry stage) }) × (devices.new ≡ devices.old) × (mail.new ≡ mail.old)) }
         ensures kept { IsErr result → of_all seen devices.new ≡ of_all seen devices.old }
         ensures once { IsErr result → RisesAtMostOne (of_all faults devices.old) (of_all faults devices.new) }
+        ensures mail { IsErr result → mail.new ≡ mail.old }
         ensures same_list { devices.new.list.ghost_name ≡ devices.old.list.ghost_name }
     {
         match stage {
             Stage::Ended(end) => self.end_again(instance, end),
-            stage => self.go_on(instance, stage, devices),
+            stage => self.go_on(instance, stage, devices, mail),
         }
     }
 
@@ -244,13 +301,15 @@ impl<'m> Program<'m> {
         mut instance: Instance<'m>,
         stage: Stage,
         devices: &mut Devices<'_>,
+        mail: &mut Mailboxes,
     ) -> Result<Event, AllocError>
         requires { OnItsWay self.old (place_of self.old (State.Live instance stage)) (State.Live instance stage) }
         ensures next { (w : WorldProgram) (notes : List Note) (os : List Outcome) → FollowsAt w notes os self.old (place_of self.old (State.Live instance.entry stage))
             → RunsCode w.source (State.Live instance.entry stage) → end_of stage ≡ None
-            → IfOk result (λ event. Advances w notes os event (supply_of seen faults self.old devices.old) (supply_of seen faults self.new devices.new) self.new) }
+            → IfOk result (λ event. MailAdvances w notes os event (mail_supply_of seen faults self.old devices.old mail.old) (mail_supply_of seen faults self.new devices.new mail.new) self.new) }
         ensures kept { IsErr result → of_all seen devices.new ≡ of_all seen devices.old }
         ensures once { IsErr result → RisesAtMostOne (of_all faults devices.old) (of_all faults devices.new) }
+        ensures mail { IsErr result → mail.new ≡ mail.old }
         ensures same_list { devices.new.list.ghost_name ≡ devices.old.list.ghost_name }
     {
         let mut steps = unused(self.steps_left);
@@ -262,8 +321,10 @@ impl<'m> Program<'m> {
             stage,
         )?;
         let answers = &mut self.left.answers;
-        let moved = told(&self.setting, &instance, answers, devices, next)?;
+        let heard = told(&self.setting, &instance, answers, devices, mail, next)?;
+        let Heard { moved, receive } = heard;
         self.steps_left = steps.left;
+        self.put_receive(receive);
         let stage = moved.stage;
         self.put_state(State::Live { instance, stage });
         Ok(moved.event)
@@ -275,13 +336,15 @@ impl<'m> Program<'m> {
         mut instance: Instance<'m>,
         func: u32,
         devices: &mut Devices<'_>,
+        mail: &mut Mailboxes,
     ) -> Result<Event, AllocError>
         requires { OnItsWay self.old (stands [] (starting func (store_in instance) (left_of self.old.left))) (State.Live instance Stage.Free) }
         ensures next { (w : WorldProgram) (notes : List Note) (os : List Outcome) → code_in instance.entry ≡ w.source
             → FollowsAt w notes os self.old (stands [] (starting func (store_in instance.entry) (left_of self.old.left)))
-            → IfOk result (λ event. Advances w notes os event (supply_of seen faults self.old devices.old) (supply_of seen faults self.new devices.new) self.new) }
+            → IfOk result (λ event. MailAdvances w notes os event (mail_supply_of seen faults self.old devices.old mail.old) (mail_supply_of seen faults self.new devices.new mail.new) self.new) }
         ensures kept { IsErr result → of_all seen devices.new ≡ of_all seen devices.old }
         ensures once { IsErr result → RisesAtMostOne (of_all faults devices.old) (of_all faults devices.new) }
+        ensures mail { IsErr result → mail.new ≡ mail.old }
         ensures same_list { devices.new.list.ghost_name ≡ devices.old.list.ghost_name }
     {
         let mut steps = unused(self.steps_left);
@@ -293,11 +356,23 @@ impl<'m> Program<'m> {
             func,
         )?;
         let answers = &mut self.left.answers;
-        let moved = told(&self.setting, &instance, answers, devices, next)?;
+        let heard = told(&self.setting, &instance, answers, devices, mail, next)?;
+        let Heard { moved, receive } = heard;
         self.steps_left = steps.left;
+        self.put_receive(receive);
         let stage = moved.stage;
         self.put_state(State::Live { instance, stage });
         Ok(moved.event)
+    }
+
+    // A receive at an empty mailbox, where there is a new one, is the one that wasn't answered.
+    fn put_receive(&mut self, receive: Option<u32>)
+        ensures { self.new ≡ record self.old { receive = latest receive self.old.receive } }
+    {
+        let Some(import) = receive else {
+            return;
+        };
+        self.receive = Some(import);
     }
 
     // Where the program stands from here on. What it held there before is dropped.
@@ -367,8 +442,29 @@ impl Drop for Program<'_> {
             left: _,
             given: _,
             steps_left: _,
+            receive: _,
             state: _,
         } = self;
+    }
+}
+
+// A pause is told as parking where a receive wasn't answered.
+fn told_event(receive: Option<u32>, event: Event) -> Event
+    ensures { (x : SettingValue) → event_of result ≡ told_pause (awaits_in x receive) (event_of event) }
+{
+    match receive {
+        None => event,
+        Some(_) => told_parked(event),
+    }
+}
+
+// A pause is told as parking.
+fn told_parked(event: Event) -> Event
+    ensures { (r : Await) → event_of result ≡ told_pause (Some r) (event_of event) }
+{
+    match event {
+        Event::Paused { ticks: _, used } => Event::Parked { used },
+        other => other,
     }
 }
 
