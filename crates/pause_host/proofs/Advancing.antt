@@ -54,7 +54,7 @@ use Rattle.pause_host.proofs.Mailings.{plain_takes}
 use Rattle.pause_host.specs.declared.program.Program.{Program}
 use Rattle.pause_host.specs.declared.program.State.{State}
 use Rattle.pause_host.specs.declared.program.State.TheVariants.{Live}
-use Rattle.pause_host.specs.Programs.{place_of, store_of, memory_at, memory_in, begins_paused, end_at, end_in, ended_as, ends_in_pause, is_at_pause, RunsCode, lines_left, FollowsAt, Follows, MailAdvances, OnItsWay, IsOnItsWay, Advances, FollowsAlone, AdvancesAlone}
+use Rattle.pause_host.specs.Programs.{place_of, store_of, memory_at, memory_in, begins_paused, end_at, end_due, end_in, ended_as, ends_in_pause, is_at_pause, RunsCode, lines_left, FollowsAt, Follows, MailAdvances, OnItsWay, IsOnItsWay, Advances, FollowsAlone, AdvancesAlone}
 
 no_end : (e : Event) → is_end e ≡ false → end_in e ≡ None
 no_end (called c) h = refl
@@ -64,6 +64,16 @@ no_end (returned entry v) h = refl
 no_end (ended how) h = cc
 no_end (parked used) h = refl
 no_end (shown at bytes) h = refl
+
+-- a stage that is no end stands at none
+pub runs_on : (stage : Stage) → ((e : End) → stage ≡ S.Ended e → ⊥) → ((e : End) → stage ≡ S.Ending e → ⊥) → end_due stage ≡ None
+runs_on S.Free told waits = refl
+runs_on (S.Answering task a) told waits = refl
+runs_on (S.Giving task v) told waits = refl
+runs_on (S.Pausing pause) told waits = refl
+runs_on (S.Paused pause) told waits = refl
+runs_on (S.Ending e) told waits = absurd (waits e refl)
+runs_on (S.Ended e) told waits = absurd (told e refl)
 
 -- an end is told as it is
 pub told_end : (r : Option Await) (how : End) → told_pause r (ended how) ≡ ended how

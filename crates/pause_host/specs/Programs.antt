@@ -40,6 +40,8 @@ use Rattle.pause_host.specs.declared.plan.Plan.{Plan}
 use Rattle.pause_host.specs.declared.program.State.{State}
 use Rattle.pause_host.specs.declared.program.State.TheVariants.{Fresh, Live, Failed, Lost}
 use Rattle.pause_host.specs.declared.program.Program.{Program}
+use Rattle.pause_host.specs.declared.stages.Stage.{Stage}
+use Rattle.pause_host.specs.declared.stages.Stage.TheVariants.{Ended, Ending}
 
 -- ---- a plan
 
@@ -158,6 +160,27 @@ supply_of seen faults x devices = supply_with x (of_all seen devices) (of_all fa
 abbrev pub receive_in : Program → Option Await
 receive_in x = awaits_in x.setting x.receive
 
+-- the end at which a stage stands: it is told next, or was told
+abbrev pub end_due : Stage → Option End
+end_due (Ending how) = Some how
+end_due (Ended how) = Some how
+end_due _ = None
+
+-- the same of a state
+abbrev pub ends_at : State → Option End
+ends_at (Live instance stage) = end_due stage
+ends_at (Failed how) = Some how
+ends_at _ = None
+
+-- the end at which a program stands: it is told next, or was told
+abbrev pub ending_in : Program → Option End
+ending_in x = ends_at x.state
+
+-- a state behind the end that was told
+abbrev pub behind_end : End → State → State
+behind_end how (Live instance stage) = Live instance (Ended how)
+behind_end how state = state
+
 -- the name of the mailbox at which it is parked: it is paused at a receive that wasn't answered
 abbrev pub parked_in : Program → Option (List ℕ)
 parked_in x = if is_at_pause x.state then option_map (λ (r : Await). r.box) (receive_in x) else None
@@ -203,6 +226,10 @@ pub record OnItsWay (x : Program) (place : Place) (state : State) : Type 0 where
 -- It was made of a plan, and has told its next event at each call since.
 abbrev pub IsOnItsWay : Program → Type 0
 IsOnItsWay x = OnItsWay x (place_of x x.state) x.state
+
+-- It stands at its end, or is on its way.
+abbrev pub MayGoOn : Program → Type 0
+MayGoOn x = ending_in x ≡ None → IsOnItsWay x
 
 -- It told one note more, with this event, and a new call met an outcome as a world has it, by what answers calls before and behind
 -- it; the instance has that note's store; and where the event is its end, it has ended so.

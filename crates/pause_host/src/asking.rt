@@ -171,7 +171,7 @@ fn no_device(import: u32) -> Asked
 }
 
 // An answer of a mailbox.
-fn mail_answer(alloc: Global, value: Option<Value>, ticks: u32) -> Answer
+pub(crate) fn mail_answer(alloc: Global, value: Option<Value>, ticks: u32) -> Answer
     ensures { given (answer_of result) ≡ mailed value ticks }
 {
     Answer {

@@ -1,22 +1,25 @@
 //! `Program`: a plan over a prepared module, advanced from event to event.
 
-ghost use Rattle.std.specs.Prelude.{◌≡◌, ◌<◌, ◌≤◌, ◌+◌, ◌*◌, ◌++◌, ◌^◌, [], ◌∷◌, ℕ, List, IfOk, IsErr, IfErr, IfSome, None, Ok, Some, length, map, min};
-ghost use Rattle.std.specs.Option.{option_copied, option_map};
+ghost use Rattle.std.specs.Prelude.{◌≡◌, ◌<◌, ◌≤◌, ◌+◌, ◌*◌, ◌++◌, ◌^◌, [], ◌∷◌, ℕ, suc, List, IfOk, IsErr, IfErr, IfSome, IsSome, None, Ok, Some, length, map, min};
+ghost use Rattle.std.specs.Option.{option_copied, option_map, unwrap_or};
 ghost use Rattle.wa_types.specs.Memory.{page_size};
 ghost use Rattle.wa_model.specs.View.{event_of};
 ghost use Rattle.world_model.specs.World.{bytes_shown};
 ghost use Rattle.mail_laws.specs.Told.{Await};
 ghost use Rattle.mail_laws.specs.MailWorld.{told_pause};
 ghost use Rattle.pause_host.specs.declared.stages.Setting.{Setting as SettingValue};
-ghost use Rattle.pause_host.specs.Mailing.{awaits_in, latest};
+ghost use Rattle.pause_host.specs.Mailing.{awaits_in, bound_in, latest};
+ghost use Rattle.pause_host.specs.Programs.{is_at_pause};
+ghost use Rattle.pause_host.specs.Views.{is_paused};
 
+use crate::asking::{bound_to, mail_answer};
 use crate::ends::copy_end;
 use crate::entries::entry_calls;
 use crate::events::next_event;
 use crate::plan::Plan;
 use crate::running::{start, told};
 use crate::setting::setting_of;
-use crate::stages::{Heard, Left, Setting, Stage};
+use crate::stages::{Heard, Left, Pause, Setting, Stage};
 use device_port::Devices;
 use host_setup::{SetupFault, set_up};
 use interp::{Instance, MakeFault, Steps};
@@ -67,6 +70,9 @@ impl<'m> Program<'m> {
     ghost use Rattle.interp.specs.Host.{code_in, store_in};
     ghost use Rattle.device_port.specs.Listed.{of_all};
     ghost use Rattle.mailbox_device.specs.Mail.{Mail};
+    ghost use Rattle.mail_laws.specs.Mailboxes.{mailed};
+    ghost use Rattle.wa_types.specs.declared.values.Value.TheVariants as V;
+    ghost use Rattle.world_laws.specs.Originals.{new_calls};
     ghost use Rattle.host_laws.specs.Places.{stands};
     ghost use Rattle.host_setup.specs.SetUp.{set_up};
     ghost use Rattle.host_setup.specs.Views.{Blames};
@@ -75,7 +81,7 @@ impl<'m> Program<'m> {
     ghost use Rattle.pause_host.specs.Views.{end_of, left_of};
     ghost use Rattle.snapshot_store.specs.Views.{parts_of};
     ghost use Rattle.pause_host.specs.Parting.{memory_if, parts_in};
-    ghost use Rattle.pause_host.specs.Programs.{Advances, AdvancesAlone, Follows, FollowsAlone, FollowsAt, IsOnItsWay, IsPlan, MailAdvances, OnItsWay, RunsCode, SetsUp, TellsNext, ended_as, mail_supply_of, mail_supply_with, memory_in, named_entries, parked_in, place_of, source_of, supply_of};
+    ghost use Rattle.pause_host.specs.Programs.{Advances, AdvancesAlone, Follows, FollowsAlone, FollowsAt, IsOnItsWay, IsPlan, MailAdvances, MayGoOn, OnItsWay, RunsCode, SetsUp, TellsNext, behind_end, end_due, ended_as, ending_in, mail_supply_of, mail_supply_with, memory_in, named_entries, parked_in, place_of, receive_in, source_of, supply_of, lines_left};
 
     /// A program of a plan, before its instantiation, or the first fault of the plan.
     pub fn new(alloc: Global, plan: Plan<'m>) -> Result<Program<'m>, SetupFault>
@@ -131,13 +137,15 @@ impl<'m> Program<'m> {
         mail: &mut Mailboxes,
     ) -> Result<Event, AllocError>
         requires lent { IsLent }
-        requires goes { IsOnItsWay self.old }
+        requires goes { MayGoOn self.old }
         requires awake { parked_in self.old ≡ None }
         ensures next { (w : WorldProgram) (notes : List Note) (os : List Outcome) → Follows w notes os self.old → ended_as self.old ≡ None
             → IfOk result (λ event. TellsNext w notes os (event_of event) (mail_supply_of seen faults self.old devices.old mail.old) (mail_supply_of seen faults self.new devices.new mail.new)
             self.new) }
         ensures again { (how : End) → ended_as self.old ≡ Some how
             → IfOk result (λ event. (event_of event ≡ ended how) × (self.new ≡ self.old) × (devices.new ≡ devices.old) × (mail.new ≡ mail.old)) }
+        ensures ending { (how : End) → ending_in self.old ≡ Some how
+            → IfOk result (λ event. (event_of event ≡ ended how) × (self.new ≡ record self.old { state = behind_end how self.old.state }) × (devices.new ≡ devices.old) × (mail.new ≡ mail.old)) }
         ensures kept { IsErr result → of_all seen devices.new ≡ of_all seen devices.old }
         ensures once { IsErr result → RisesAtMostOne (of_all faults devices.old) (of_all faults devices.new) }
         ensures mail { IsErr result → mail.new ≡ mail.old }
@@ -167,11 +175,13 @@ impl<'m> Program<'m> {
 
     // The next event of the run, a pause also where it parks the program.
     fn step(&mut self, devices: &mut Devices<'_>, mail: &mut Mailboxes) -> Result<Event, AllocError>
-        requires goes { IsOnItsWay self.old }
+        requires goes { MayGoOn self.old }
         ensures next { (w : WorldProgram) (notes : List Note) (os : List Outcome) → Follows w notes os self.old → ended_as self.old ≡ None
             → IfOk result (λ event. MailAdvances w notes os event (mail_supply_of seen faults self.old devices.old mail.old) (mail_supply_of seen faults self.new devices.new mail.new) self.new) }
         ensures again { (how : End) → ended_as self.old ≡ Some how
             → IfOk result (λ event. (event_of event ≡ ended how) × (self.new ≡ self.old) × (devices.new ≡ devices.old) × (mail.new ≡ mail.old)) }
+        ensures ending { (how : End) → ending_in self.old ≡ Some how
+            → IfOk result (λ event. (event_of event ≡ ended how) × (self.new ≡ record self.old { state = behind_end how self.old.state }) × (devices.new ≡ devices.old) × (mail.new ≡ mail.old)) }
         ensures kept { IsErr result → of_all seen devices.new ≡ of_all seen devices.old }
         ensures once { IsErr result → RisesAtMostOne (of_all faults devices.old) (of_all faults devices.new) }
         ensures mail { IsErr result → mail.new ≡ mail.old }
@@ -268,26 +278,32 @@ impl<'m> Program<'m> {
         devices: &mut Devices<'_>,
         mail: &mut Mailboxes,
     ) -> Result<Event, AllocError>
-        requires { OnItsWay self.old (place_of self.old (State.Live instance stage)) (State.Live instance stage) }
+        requires { end_due stage ≡ None → OnItsWay self.old (place_of self.old (State.Live instance stage)) (State.Live instance stage) }
         ensures next { (w : WorldProgram) (notes : List Note) (os : List Outcome) → FollowsAt w notes os self.old (place_of self.old (State.Live instance.entry stage))
             → RunsCode w.source (State.Live instance.entry stage) → end_of stage ≡ None
             → IfOk result (λ event. MailAdvances w notes os event (mail_supply_of seen faults self.old devices.old mail.old) (mail_supply_of seen faults self.new devices.new mail.new) self.new) }
         ensures again { (how : End) → end_of stage ≡ Some how → IfOk result (λ event. (event_of event ≡ ended how)
             × (self.new ≡ record self.old { state = (State.Live instance.entry stage) }) × (devices.new ≡ devices.old) × (mail.new ≡ mail.old)) }
+        ensures ending { (how : End) → end_due stage ≡ Some how → IfOk result (λ event. (event_of event ≡ ended how)
+            × (self.new ≡ record self.old { state = State.Live instance.entry (Stage.Ended how) }) × (devices.new ≡ devices.old) × (mail.new ≡ mail.old)) }
         ensures kept { IsErr result → of_all seen devices.new ≡ of_all seen devices.old }
         ensures once { IsErr result → RisesAtMostOne (of_all faults devices.old) (of_all faults devices.new) }
         ensures mail { IsErr result → mail.new ≡ mail.old }
         ensures same_list { devices.new.list.ghost_name ≡ devices.old.list.ghost_name }
     {
         match stage {
-            Stage::Ended(end) => self.end_again(instance, end),
+            Stage::Ended(end) => self.tell_end(instance, end),
+            Stage::Ending(end) => self.tell_end(instance, end),
             stage => self.go_on(instance, stage, devices, mail),
         }
     }
 
-    // The end was told before.
-    fn end_again(&mut self, instance: Instance<'m>, end: End) -> Result<Event, AllocError>
-        ensures { IfOk result (λ event. (event_of event ≡ ended end) × (self.new ≡ record self.old { state = State.Live instance.entry (Stage.Ended end) })) }
+    // The end is told, be it again.
+    fn tell_end(&mut self, instance: Instance<'m>, end: End) -> Result<Event, AllocError>
+        ensures told { IfOk result (λ event. (event_of event ≡ ended end) × (self.new ≡ record self.old { state = State.Live instance.entry (Stage.Ended end) })) }
+        ensures next { (w : WorldProgram) (notes : List Note) (os : List Outcome) (ds : List Device) (counts : List ℕ) (mail : Mail)
+            → FollowsAt w notes os self.old (place_of self.old (State.Live instance.entry (Stage.Ending end))) → RunsCode w.source (State.Live instance.entry (Stage.Ending end))
+            → IfOk result (λ event. MailAdvances w notes os event (mail_supply_with self.old ds counts mail) (mail_supply_with self.new ds counts mail) self.new) }
     {
         let told = copy_end(self.setting.alloc, &end)?;
         let stage = Stage::Ended(end);
@@ -382,6 +398,68 @@ impl<'m> Program<'m> {
         self.state = state;
     }
 
+    /// The name of the mailbox at which it is parked: its last event was the pause of a receive that wasn't answered. None exactly
+    /// where it isn't parked.
+    pub fn parked_at(&self) -> Option<&str>
+        ensures { option_map (λ name. name.now) result ≡ parked_in self.now }
+    {
+        if !is_paused(&self.state) {
+            return None;
+        }
+        match self.receive {
+            None => None,
+            Some(import) => Some(name_of(&self.setting, import)),
+        }
+    }
+
+    /// The receive at which it is parked is answered this value, with which the program goes on.
+    pub fn settle(&mut self, value: u32)
+        requires { IsSome (parked_in self.old) }
+        ensures follows { (w : WorldProgram) (notes : List Note) (os : List Outcome) → new_calls notes ≡ suc (length os)
+            → Follows w notes (os ++ mailed (Some (V.I32 0)) 1 ∷ []) self.old → Follows w notes (os ++ mailed (Some (V.I32 value)) 1 ∷ []) self.new }
+        ensures awake { (receive_in self.new ≡ None) × (parked_in self.new ≡ None) }
+        ensures kept { (memory_in self.new ≡ memory_in self.old) × (lines_left self.new ≡ lines_left self.old) }
+    {
+        let alloc = self.setting.alloc;
+        self.receive = None;
+        let State::Live { instance, stage } = mem::replace(&mut self.state, State::Lost) else {
+            unreachable!();
+        };
+        let Stage::Paused(pause) = stage else {
+            unreachable!();
+        };
+        let answer = mail_answer(alloc, Some(Value::I32(value)), 1);
+        let Pause {
+            entry,
+            import,
+            answer: _,
+        } = pause;
+        let stage = Stage::Paused(Pause {
+            entry,
+            import,
+            answer,
+        });
+        self.put_state(State::Live { instance, stage });
+    }
+
+    /// Nobody will send what it waits for: its next event is its end, of which this is why. Nothing else of it changes.
+    pub fn stall(&mut self)
+        requires { IsSome (parked_in self.old) }
+        ensures ending { (r : Await) → receive_in self.old ≡ Some r → ending_in self.new ≡ Some (End.Stalled r.import) }
+        ensures awake { (receive_in self.new ≡ None) × (parked_in self.new ≡ None) }
+        ensures kept { (memory_in self.new ≡ memory_in self.old) × (lines_left self.new ≡ lines_left self.old) }
+    {
+        let State::Live { instance, stage: _ } = mem::replace(&mut self.state, State::Lost) else {
+            unreachable!();
+        };
+        let Some(import) = self.receive else {
+            unreachable!();
+        };
+        self.receive = None;
+        let stage = Stage::Ending(End::Stalled(import));
+        self.put_state(State::Live { instance, stage });
+    }
+
     /// What the program is at its pause, but for its memory. None exactly where it isn't paused: where the event told last isn't a
     /// pause.
     pub fn parts(&self, alloc: Global) -> Result<Option<PausedParts>, AllocError>
@@ -445,6 +523,35 @@ impl Drop for Program<'_> {
             receive: _,
             state: _,
         } = self;
+    }
+}
+
+// Whether a program stands at a pause.
+fn is_paused(state: &State<'_>) -> bool
+    ensures { result ≡ is_at_pause state.now }
+{
+    match state {
+        State::Live { instance: _, stage } => is_pause(stage),
+        _ => false,
+    }
+}
+
+fn is_pause(stage: &Stage) -> bool
+    ensures { result ≡ is_paused stage.now }
+{
+    match stage {
+        Stage::Paused(_) => true,
+        _ => false,
+    }
+}
+
+// The name to which an import is bound, empty where it is bound to none.
+fn name_of(setting: &Setting, import: u32) -> &str
+    ensures { result.now ≡ unwrap_or (bound_in setting.now import) [] }
+{
+    match bound_to(setting, import) {
+        None => "",
+        Some(name) => name,
     }
 }
 

@@ -13,3 +13,9 @@ returns-clause-again g c = λ how told.
     let h = c.in_ok-event.ensures.again how told in
     let r = awaits_in c.step.new.self.setting c.step.new.self.receive in
     (c.told_event.ensures c.step.new.self.setting ∙ ap (told_pause r) h.0 ∙ told_end r how, h.1, h.2, h.3)
+
+pub returns-clause-ending : goal.returns-clause-ending
+returns-clause-ending g c = λ how told.
+    let h = c.in_ok-event.ensures.ending how told in
+    let r = awaits_in c.step.new.self.setting c.step.new.self.receive in
+    (c.told_event.ensures c.step.new.self.setting ∙ ap (told_pause r) h.0 ∙ told_end r how, h.1, h.2, h.3)

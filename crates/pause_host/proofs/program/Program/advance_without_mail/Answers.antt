@@ -11,3 +11,6 @@ returns-clause-next g c = λ w notes os f none.
 
 pub returns-clause-again : goal.returns-clause-again
 returns-clause-again g c = λ how told. IfOk-weaker c.step.result _ _ (λ event h. (h.0, h.1, h.2)) (c.step.ensures.again how told)
+
+pub step-requires : goal.step-requires
+step-requires g c = record { goes = λ none. c.requires.goes }
