@@ -107,7 +107,8 @@ module _ (w : Program) where
       ∙ ap (λ xs. xs ++ made) e
       ∙ append_assoc events behind made
 
-  landed : (notes ready : List Note) (os os' : List Outcome) (left used : ℕ) (h : Held) (x : Note) (to : Place) → Made w notes ready os left h → used ≤ left
+  -- where a note that lands leaves it
+  pub landed : (notes ready : List Note) (os os' : List Outcome) (left used : ℕ) (h : Held) (x : Note) (to : Place) → Made w notes ready os left h → used ≤ left
       → Lands w.source w.plan w.steps ready h os' left x used to → IsAt w (notes ++ x ∷ []) (os ++ os') (left - used) to
   landed notes ready os os' left used h x to m le (goes_on made tail h' stretch is_x more to_is) =
       let steps : (m.used + used) + (left - used) ≡ steps_from w.steps w.origin = omega (arith, m.steps) in

@@ -21,11 +21,11 @@ use Rattle.wa_model.specs.Protocol.{Exports, exports_of, is_running, unwinds, re
 use Rattle.wa_model.specs.Protocol.{aside, entering, over, broken, held_on, held_given, held_tested, held_asked, held_begun, busy_step, is_state, aside_back, aside_step, busy_enters, held_next, aside_called}
 use Rattle.wa_model.specs.Protocol.{held_start, protocol}
 use Rattle.run_theory.proofs.Runs.{turned}
-use Rattle.world_model.specs.World.{Origin, at_pause, at_start, call_in, gone, is_end}
+use Rattle.world_model.specs.World.{Origin, at_pause, at_start, call_in, gone, is_end, Program}
 use Rattle.world_laws.specs.Originals.{one_if, new_calls}
 use Rattle.world_laws.proofs.Counting.{calls_on}
 use Rattle.host_laws.specs.Stretch.{meeting, Stretch}
-use Rattle.host_laws.specs.Stories.{opened_at, opened_from}
+use Rattle.host_laws.specs.Stories.{Made, opened_at, opened_from}
 use Rattle.mail_laws.specs.MailWorld.{is_pause, pauses}
 use Rattle.mail_laws.specs.Mailboxes.{mailed}
 use Rattle.mail_laws.specs.Unread.{with_value, UnreadAnswers}
@@ -496,9 +496,17 @@ value_there u v more (re_call e i sp s f args th l) = refl
 value_there u v more (re_export e i sp c th l) = refl
 value_there u v more (re_entry e i sp again s l) = refl
 
-pub unread_answers : UnreadAnswers
-unread_answers w notes os u v left h paused_last calls at =
-    record { behind = at.behind; made = at.made; used = at.used; steps = at.steps; stretch = stretch }
+-- Where such a run stands: behind the call whose answer is this value, and behind the same call for any other value.
+pub record StandsUnread (w : Program) (os : List Outcome) (u v cost : ℕ) (notes : List Note) (more : List Outcome) (h : Held) : Type 0 where
+  pub place : Rewinding
+  pub this : meeting more h ≡ meeting more (rewound place u)
+  pub other : Leads (protocol w.source (exports_of w.source) w.plan) (meeting (os ++ mailed (Some (V.I32 v)) 1 ∷ more) (opened_at w).last) cost notes (meeting more (rewound place v))
+
+stands_unread : (w : Program) (notes : List Note) (os : List Outcome) (u v left : ℕ) (h : Held) → pauses notes ≡ true → new_calls notes ≡ suc (length os)
+    → (at : Made w notes [] (os ++ mailed (Some (V.I32 u)) 1 ∷ []) left h) (more : List Outcome) → StandsUnread w os u v at.used at.behind more h
+stands_unread w notes os u v left h paused_last calls at more =
+    by (walk w.source (exports_of w.source) w.plan u v more os (opened_at w).last (meeting ((os ++ mailed (Some (V.I32 u)) 1 ∷ []) ++ more) (opened_at w).last)
+    (meeting more h) at.used at.behind (ap (λ (q : List Outcome). meeting q (opened_at w).last) (append_assoc os (mailed (Some (V.I32 u)) 1 ∷ []) more)) (at.stretch more))
   where
     made : notes ≡ (opened_at w).events ++ at.behind
     made = sym (append-nil notes) ∙ at.made
@@ -509,18 +517,28 @@ unread_answers w notes os u v left h paused_last calls at =
         let s = ap new_calls made ∙ calls_on (opened_at w).events at.behind in
         omega (arith, z, s, calls)
 
+    by : Walked w.source (exports_of w.source) w.plan u v more os (opened_at w).last (meeting more h) at.used at.behind → StandsUnread w os u v at.used at.behind more h
+    by (few le) = let never : ⊥ = omega (arith, le, counted) in absurd never
+    by (many lt) = let never : ⊥ = omega (arith, lt, counted) in absurd never
+    by (no_pause s is) =
+        let bad : true ≡ false = sym paused_last ∙ ap pauses made ∙ pauses_behind (opened_at w).events at.behind s ∙ is in absurd cc
+    by (there r e l) = record { place = r; this = e; other = l }
+
+pub unread_answers : UnreadAnswers
+unread_answers w notes os u v left h paused_last calls at =
+    record { behind = at.behind; made = at.made; used = at.used; steps = at.steps; stretch = stretch }
+  where
     stretch : Stretch w.source w.plan (opened_at w).last (os ++ mailed (Some (V.I32 v)) 1 ∷ []) at.behind at.used (with_value v h)
-    stretch more = by (walk w.source (exports_of w.source) w.plan u v more os (opened_at w).last (meeting ((os ++ mailed (Some (V.I32 u)) 1 ∷ []) ++ more) (opened_at w).last)
-        (meeting more h) at.used at.behind (ap (λ (q : List Outcome). meeting q (opened_at w).last) (append_assoc os (mailed (Some (V.I32 u)) 1 ∷ []) more)) (at.stretch more))
-      where
-        by : Walked w.source (exports_of w.source) w.plan u v more os (opened_at w).last (meeting more h) at.used at.behind
-            → Leads (protocol w.source (exports_of w.source) w.plan) (meeting ((os ++ mailed (Some (V.I32 v)) 1 ∷ []) ++ more) (opened_at w).last) at.used at.behind (meeting more (with_value v h))
-        by (few le) = let never : ⊥ = omega (arith, le, counted) in absurd never
-        by (many lt) = let never : ⊥ = omega (arith, lt, counted) in absurd never
-        by (no_pause s is) =
-            let bad : true ≡ false = sym paused_last ∙ ap pauses made ∙ pauses_behind (opened_at w).events at.behind s ∙ is in absurd cc
-        by (there r e l) =
-            subst (λ (q : List Outcome). Leads (protocol w.source (exports_of w.source) w.plan) (meeting q (opened_at w).last) at.used at.behind (meeting more (with_value v h)))
-            (sym (append_assoc os (mailed (Some (V.I32 v)) 1 ∷ []) more))
-            (subst (λ (q : Held). Leads (protocol w.source (exports_of w.source) w.plan) (meeting (os ++ mailed (Some (V.I32 v)) 1 ∷ more) (opened_at w).last) at.used at.behind q)
-            (sym (value_there u v more r) ∙ ap (with_value v) (sym e) ∙ value_phase v more h) l)
+    stretch more =
+        let k = stands_unread w notes os u v left h paused_last calls at more in
+        subst (λ (q : List Outcome). Leads (protocol w.source (exports_of w.source) w.plan) (meeting q (opened_at w).last) at.used at.behind (meeting more (with_value v h)))
+        (sym (append_assoc os (mailed (Some (V.I32 v)) 1 ∷ []) more))
+        (subst (λ (q : Held). Leads (protocol w.source (exports_of w.source) w.plan) (meeting (os ++ mailed (Some (V.I32 v)) 1 ∷ more) (opened_at w).last) at.used at.behind q)
+        (sym (value_there u v more k.place) ∙ ap (with_value v) (sym k.this) ∙ value_phase v more h) k.other)
+
+-- Where it stands the answer of its pause is this value.
+pub unread_value : (w : Program) (notes : List Note) (os : List Outcome) (u left : ℕ) (h : Held) → pauses notes ≡ true → new_calls notes ≡ suc (length os)
+    → Made w notes [] (os ++ mailed (Some (V.I32 u)) 1 ∷ []) left h → meeting [] h ≡ meeting [] (with_value u h)
+unread_value w notes os u left h paused_last calls at =
+    let k = stands_unread w notes os u u left h paused_last calls at [] in
+    k.this ∙ sym (value_there u u [] k.place) ∙ ap (with_value u) (sym k.this) ∙ value_phase u [] h

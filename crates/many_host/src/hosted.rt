@@ -22,7 +22,7 @@ impl<'m> Teller for Hosted<'m> {
     ghost memory = { λ x. memory_of x };
 
     fn advance(&mut self, devices: &mut Devices<'_>) -> Result<Event, AllocError> {
-        self.program.advance(devices)
+        self.program.advance_without_mail(devices)
     }
 
     fn show(&self, at: u32, len: u32) -> Option<&[u8]> {

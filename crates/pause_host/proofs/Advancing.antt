@@ -29,14 +29,17 @@ use Rattle.interp.specs.Instance as I
 use Rattle.interp.specs.Instance.{Waits}
 use Rattle.wa_model.specs.Protocol.{Held, exports_of, over, store_held}
 use Rattle.world_model.specs.World as W
-use Rattle.world_model.specs.World.{CallsMeet, MeetsBound, answers_from, MeetsLine, name_at, import_names, call_in, is_end, protocol_story}
+use Rattle.world_model.specs.World.{CallsMeet, answers_from, MeetsLine, name_at, import_names, call_in, is_end, protocol_story}
 use Rattle.wa_model.specs.Behaves.{IsPrefix}
 use Rattle.run_laws.specs.FittingStates.{HeldFits, ExportsTyped}
 use Rattle.host_laws.specs.Places.{Place, stands, has_ended, nowhere, Lands, goes_on, ends, spends}
 use Rattle.host_laws.specs.Stories.{IsAt, BeginsStory, IsStory}
-use Rattle.host_laws.specs.Supplies.{Supply, bound_to, Takes}
+use Rattle.host_laws.specs.Supplies.{Supply, bound_to}
+use Rattle.mail_laws.specs.MailWorld.{told_pause}
+use Rattle.mail_laws.specs.Told.{Amid, Await}
 use Rattle.host_laws.proofs.Stretches.{nowhere_on}
-use Rattle.host_laws.proofs.Tellings.{one_more_told, one_more_met, place_begins, place_whole, still_none}
+use Rattle.host_laws.proofs.Tellings.{landed, one_more_met, place_begins, place_whole, still_none}
+use Rattle.pause_host.specs.Mailing.{AsksBound, MailSupply, TakesMail, without_mail}
 use Rattle.pause_host.specs.Moves.{Moves, IsSetting, PlaceFits, HasShortPokes}
 use Rattle.pause_host.specs.Holding.{PlaceHolds, are_inside, is_held}
 use Rattle.pause_host.proofs.Holding.{holds_then}
@@ -47,10 +50,11 @@ use Rattle.pause_host.specs.declared.stages.Task.{Task}
 use Rattle.pause_host.specs.declared.stages.Task.TheVariants as T
 use Rattle.pause_host.specs.Views.{exports_in, entry_of, with_asker, answering, giving, is_pause, place_in, end_of}
 use Rattle.pause_host.proofs.Comings.{fits_on}
+use Rattle.pause_host.proofs.Mailings.{plain_takes}
 use Rattle.pause_host.specs.declared.program.Program.{Program}
 use Rattle.pause_host.specs.declared.program.State.{State}
 use Rattle.pause_host.specs.declared.program.State.TheVariants.{Live}
-use Rattle.pause_host.specs.Programs.{place_of, store_of, memory_at, memory_in, begins_paused, end_at, end_in, ended_as, ends_in_pause, is_at_pause, RunsCode, lines_left, FollowsAt, Follows, OnItsWay, IsOnItsWay, Advances, FollowsAlone, AdvancesAlone}
+use Rattle.pause_host.specs.Programs.{place_of, store_of, memory_at, memory_in, begins_paused, end_at, end_due, end_in, ended_as, ends_in_pause, is_at_pause, RunsCode, lines_left, FollowsAt, Follows, MailAdvances, OnItsWay, IsOnItsWay, Advances, FollowsAlone, AdvancesAlone}
 
 no_end : (e : Event) → is_end e ≡ false → end_in e ≡ None
 no_end (called c) h = refl
@@ -60,6 +64,21 @@ no_end (returned entry v) h = refl
 no_end (ended how) h = cc
 no_end (parked used) h = refl
 no_end (shown at bytes) h = refl
+
+-- a stage that is no end stands at none
+pub runs_on : (stage : Stage) → ((e : End) → stage ≡ S.Ended e → ⊥) → ((e : End) → stage ≡ S.Ending e → ⊥) → end_due stage ≡ None
+runs_on S.Free told waits = refl
+runs_on (S.Answering task a) told waits = refl
+runs_on (S.Giving task v) told waits = refl
+runs_on (S.Pausing pause) told waits = refl
+runs_on (S.Paused pause) told waits = refl
+runs_on (S.Ending e) told waits = absurd (waits e refl)
+runs_on (S.Ended e) told waits = absurd (told e refl)
+
+-- an end is told as it is
+pub told_end : (r : Option Await) (how : End) → told_pause r (ended how) ≡ ended how
+told_end None how = refl
+told_end (Some r) how = refl
 
 -- the last note of all
 pause_told : (b : Bool) (notes : List Note) (x : Note) → ends_in_pause b (notes ++ x ∷ []) ≡ is_pause x.event
@@ -87,32 +106,32 @@ module _ (w : W.Program) where
       by_name true m = subst (All HasShortPokes) (sym m.1) (All-tail HasShortPokes l ls k)
       by_name false m = subst (All HasShortPokes) (sym m.1) k
 
-  bound_taken : (import : ℕ) (args : List Value) (bound : Option (List ℕ)) (lines lines' : List AnswerLine) (ds ds' : List W.Device) (o : Outcome)
-      → MeetsBound w.source import args bound lines ds o lines' ds' → All HasShortPokes lines → All HasShortPokes lines'
-  bound_taken import args (Some name) lines lines' ds ds' o h k = subst (All HasShortPokes) (sym h.1) k
-  bound_taken import args None lines lines' ds ds' o h k = line_taken import (name_at (import_names w.source) import) lines o lines' h.0 k
+  bound_taken : (import : ℕ) (args : List Value) (bound : Option (List ℕ)) (lines lines' : List AnswerLine) (m m' : Amid) (o : Outcome)
+      → AsksBound w.source import args bound lines m o lines' m' → All HasShortPokes lines → All HasShortPokes lines'
+  bound_taken import args (Some name) lines lines' m m' o h k = subst (All HasShortPokes) (sym h.1) k
+  bound_taken import args None lines lines' m m' o h k = line_taken import (name_at (import_names w.source) import) lines o lines' h.0 k
 
-  pokes_then : (c : Option Call) (old : Supply) (os : List Outcome) (new : Supply) → Takes w c old os new → All HasShortPokes old.lines → All HasShortPokes new.lines
-  pokes_then None old os new t k = subst (λ (z : Supply). All HasShortPokes z.lines) (sym t.1) k
-  pokes_then (Some c) old os new t k = bound_taken c.import c.args (bound_to w c.import) old.lines new.lines old.devices new.devices t.0 t.2.meets k
+  pokes_then : (c : Option Call) (old : MailSupply) (os : List Outcome) (new : MailSupply) → TakesMail w c old os new → All HasShortPokes old.lines → All HasShortPokes new.lines
+  pokes_then None old os new t k = subst (λ (z : MailSupply). All HasShortPokes z.lines) (sym t.1) k
+  pokes_then (Some c) old os new t k = bound_taken c.import c.args (bound_to w c.import) old.lines new.lines old.amid new.amid t.0 t.2.meets k
 
   -- The program x' is the program x with one note more.
-  pub advanced : (notes : List Note) (os : List Outcome) (x x' : Program) (from to : Place) (event : EventValue) (s : Store) (used : ℕ) (old new : Supply) → FollowsAt w notes os x from
+  pub advanced : (notes : List Note) (os : List Outcome) (x x' : Program) (from to : Place) (event : EventValue) (s : Store) (used : ℕ) (old new : MailSupply) → FollowsAt w notes os x from
       → Moves w from x.steps_left old event s used new to
       → old.lines ≡ lines_left x → module_of x'.valid.now ≡ module_of x.valid.now → x'.setting ≡ x.setting → x'.globals ≡ x.globals → x'.given ≡ x.given → lines_left x' ≡ new.lines → x'.steps_left ≡ x.steps_left - used
       → place_of x' x'.state ≡ to → store_of x'.state ≡ s → memory_in x' ≡ s.memory → RunsCode w.source x'.state
-      → is_at_pause x'.state ≡ is_pause (event_of event) → Advances w notes os event old new x'
+      → is_at_pause x'.state ≡ is_pause (event_of event) → MailAdvances w notes os event old new x'
   advanced notes os x x' (stands ready h) to event s used old new f m old_lines same_code same_setting same_globals same_given same_lines same_steps same_place same_store same_memory code pauses =
       let t = m.tells in
-      let more = one_more_told w notes os x.steps_left (stands ready h) old m.note used new to f.told t in
+      let at = landed w notes ready os t.outcomes x.steps_left used h m.note to f.told t.within t.lands in
       record {
         note = m.note;
-        met = more.0;
+        met = t.outcomes;
         event_is = m.event_is;
         store_is = m.store_is ∙ sym same_store;
         memory_is = same_memory ∙ ap (λ (z : Store). z.memory) (sym m.store_is);
         ended_is = ap end_at same_place ∙ end_told ready h t.outcomes x.steps_left m.note used to t.lands;
-        takes = more.1;
+        takes = t.takes;
         follows = record {
           at = record {
             source = f.source ∙ sym same_code;
@@ -124,8 +143,8 @@ module _ (w : W.Program) where
             fits = subst (PlaceFits w) (sym same_place) (fits_then ready h t.outcomes x.steps_left m.note used to f.setting.valid f.setting.typed f.fits t.lands);
             holds = subst (PlaceHolds w) (sym same_place) (holds_then w ready h t.outcomes x.steps_left m.note used to f.holds t.lands);
             few_steps = f.few_steps;
-            told = subst (IsAt w (notes ++ m.note ∷ []) (os ++ more.0) x'.steps_left) (sym same_place)
-                (subst (λ n. IsAt w (notes ++ m.note ∷ []) (os ++ more.0) n to) (sym same_steps) more.2);
+            told = subst (IsAt w (notes ++ m.note ∷ []) (os ++ t.outcomes) x'.steps_left) (sym same_place)
+                (subst (λ n. IsAt w (notes ++ m.note ∷ []) (os ++ t.outcomes) n to) (sym same_steps) at);
           };
           code = code;
           paused = pauses ∙ ap is_pause (sym m.event_is) ∙ sym (pause_told (begins_paused w.origin) notes m.note);
@@ -133,6 +152,20 @@ module _ (w : W.Program) where
       }
   advanced notes os x x' (has_ended how) to event s used old new f m old_lines same_code same_setting same_globals same_given same_lines same_steps same_place same_store same_memory code pauses = absurd m.tells
   advanced notes os x x' nowhere to event s used old new f m old_lines same_code same_setting same_globals same_given same_lines same_steps same_place same_store same_memory code pauses = absurd m.tells
+
+  -- the same without mailboxes
+  pub advanced_plain : (notes : List Note) (os : List Outcome) (x : Program) (event : EventValue) (old new : MailSupply) → old.amid.boxes ≡ [] → MailAdvances w notes os event old new x
+      → Advances w notes os event (without_mail old) (without_mail new) x
+  advanced_plain notes os x event old new none a = record {
+    note = a.note;
+    met = a.met;
+    event_is = a.event_is;
+    store_is = a.store_is;
+    memory_is = a.memory_is;
+    ended_is = a.ended_is;
+    takes = plain_takes w (call_in a.note.event) old a.met new none a.takes;
+    follows = a.follows;
+  }
 
 -- ---- for those above
 
@@ -278,7 +311,7 @@ on_its_way x dest st is h = record {
 }
 
 -- an end that is told without an instance
-pub failed_moves : (w : W.Program) (left : ℕ) (supply : Supply) (end told : End) → told ≡ end
+pub failed_moves : (w : W.Program) (left : ℕ) (supply : MailSupply) (end told : End) → told ≡ end
     → Moves w (stands (note (ended end) no_store ∷ []) (over no_store)) left supply (EV.Ended told) no_store 0 supply (has_ended end)
 failed_moves w left supply end told e = record {
   note = note (ended end) no_store;

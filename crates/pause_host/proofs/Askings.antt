@@ -22,7 +22,6 @@ use Rattle.run_laws.proofs.Host.{fault_pokes}
 use Rattle.run_laws.proofs.StandingPauses.{fault_outside}
 use Rattle.interp.specs.Instance as I
 use Rattle.interp.specs.Instance.{Waits}
-use Rattle.host_laws.specs.Supplies.{Supply, Answers}
 use Rattle.host_laws.specs.Stretch.{meeting}
 use Rattle.host_laws.specs.Places.{stands, nowhere, goes_on}
 use Rattle.host_laws.proofs.Stretches.{on_last}
@@ -31,6 +30,7 @@ use Rattle.pause_host.specs.declared.stages.Stage.TheVariants as S
 use Rattle.pause_host.specs.declared.stages.Task.{Task}
 use Rattle.pause_host.specs.declared.stages.Task.TheVariants as T
 use Rattle.pause_host.specs.Views.{entry_of, with_asker, answering, place_in, starts, stage_after}
+use Rattle.pause_host.specs.Mailing.{MailAnswers, MailSupply}
 use Rattle.pause_host.specs.Moves.{Comes, Asks, IsAsking}
 use Rattle.pause_host.specs.Holding.{HoldsArea, PokesInside, are_inside, is_held}
 use Rattle.pause_host.proofs.Holding.{held_true, inside_true}
@@ -152,8 +152,8 @@ module _ (w : Program) (h : Held) (l : Left) (left used : ℕ) (call : CallValue
   told pause = call_note call.import call.args.items (store_at who) (stack_at p who) pause
 
   -- a call is told, and the rest of what it makes is ready
-  told_call : (m : Moved) (supply supply' : Supply) (o : Outcome) (pause : Option ℕ) (behind : List Note) (h' : Held) → m.event ≡ EV.Called call
-      → Answers w (call_of call) supply o supply'
+  told_call : (m : Moved) (supply supply' : MailSupply) (o : Outcome) (pause : Option ℕ) (behind : List Note) (h' : Held) → m.event ≡ EV.Called call
+      → MailAnswers w (call_of call) supply o supply'
       → ((more : List Outcome) → held_asked p x w.plan a0.k call.import call.args.items who (with_outcomes l (o ∷ more)) (o ∷ more) ≡ goes a0.k (told pause ∷ behind) (meeting more h'))
       → place_in x w.plan.area l s waits m.stage ≡ stands behind h' → Comes w h left used m supply supply' l s waits
   told_call m supply supply' o pause behind h' e meets mv place = record {
@@ -169,14 +169,14 @@ module _ (w : Program) (h : Held) (l : Left) (left used : ℕ) (call : CallValue
   }
 
   -- the outcome is the end
-  pub told_refused : (m : Moved) (supply supply' : Supply) (end : End) → m.event ≡ EV.Called call → m.stage ≡ S.Ending end
-      → Answers w (call_of call) supply (refused end) supply' → Comes w h left used m supply supply' l s waits
+  pub told_refused : (m : Moved) (supply supply' : MailSupply) (end : End) → m.event ≡ EV.Called call → m.stage ≡ S.Ending end
+      → MailAnswers w (call_of call) supply (refused end) supply' → Comes w h left used m supply supply' l s waits
   told_refused m supply supply' end e st meets =
       told_call m supply supply' (refused end) None (note (ended end) (store_at who) ∷ []) (over (store_at who)) e meets (λ more. refl)
       (ap (place_in x w.plan.area l s waits) st ∙ ap (λ z. stands (note (ended end) z ∷ []) (over z)) (sym (asking_store task waits s who asking)))
 
-  module _ (m : Moved) (supply supply' : Supply) (answer : AnswerValue) (e : m.event ≡ EV.Called call)
-      (meets : Answers w (call_of call) supply (given (answer_of answer)) supply') where
+  module _ (m : Moved) (supply supply' : MailSupply) (answer : AnswerValue) (e : m.event ≡ EV.Called call)
+      (meets : MailAnswers w (call_of call) supply (given (answer_of answer)) supply') where
     abbrev a : Answer
     a = answer_of answer
 

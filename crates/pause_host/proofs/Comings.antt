@@ -15,10 +15,10 @@ use Rattle.world_model.specs.World.{Program}
 use Rattle.interp.specs.Instance.{Waits}
 use Rattle.run_laws.specs.FittingStates.{HeldFits, ExportsTyped}
 use Rattle.run_laws.proofs.ProtocolStopping.{protocol_states_stay}
-use Rattle.host_laws.specs.Supplies.{Supply}
 use Rattle.host_laws.specs.Stretch.{meeting, Stretch, IsSpent}
 use Rattle.host_laws.specs.Places.{Place, stands, has_ended, Lands, goes_on, ends, spends}
 use Rattle.host_laws.proofs.Stretches.{compose}
+use Rattle.pause_host.specs.Mailing.{MailSupply}
 use Rattle.pause_host.specs.declared.stages.Moved.{Moved}
 use Rattle.pause_host.specs.declared.stages.Stage.TheVariants as S
 use Rattle.pause_host.specs.Views.{place_in}
@@ -26,7 +26,7 @@ use Rattle.pause_host.specs.Moves.{Comes, ComesFrom, EndsAt, at_over, at_spent}
 
 module _ (w : Program) where
   -- the end is told
-  pub ends_come : (h : Held) (left used : ℕ) (how : End) (s : Store) (m : Moved) (supply : Supply) (l : Left) (waits : Waits) → EndsAt w h left used how s
+  pub ends_come : (h : Held) (left used : ℕ) (how : End) (s : Store) (m : Moved) (supply : MailSupply) (l : Left) (waits : Waits) → EndsAt w h left used how s
       → m.event ≡ V.Ended how → m.stage ≡ S.Ended how → Comes w h left used m supply supply l s waits
   ends_come h left used how s m supply l waits (at_over stretch within) e st = record {
     note = note (ended how) s;
@@ -67,7 +67,7 @@ module _ (w : Program) where
       (subst (λ xs. Stretch w.source w.plan h os (xs ++ []) (u + used1) h') none (compose w.source w.plan h h1 h' [] os ready [] u used1 first stretch)))
       refl (subst (λ n. IsSpent w.source w.plan n h') short spent) is_x to_is
 
-  pub comes_behind : (h h1 : Held) (ready : List Note) (u left0 left1 used1 used : ℕ) (m : Moved) (supply supply' : Supply) (l : Left) (s : Store) (waits : Waits)
+  pub comes_behind : (h h1 : Held) (ready : List Note) (u left0 left1 used1 used : ℕ) (m : Moved) (supply supply' : MailSupply) (l : Left) (s : Store) (waits : Waits)
       → Stretch w.source w.plan h [] ready u h1
       → u ≤ left0 → left1 ≡ left0 - u → used ≡ u + used1 → ComesFrom w (stands ready h1) left1 used1 m supply supply' l s waits → Comes w h left0 used m supply supply' l s waits
   comes_behind h h1 ready u left0 left1 used1 used m supply supply' l s waits first le l1 e c = record {

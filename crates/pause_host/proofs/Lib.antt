@@ -10,9 +10,11 @@ pub mod Fronts
 pub mod GoingOn
 pub mod Holding
 pub mod Hosting
+pub mod Mailings
 pub mod Making
 pub mod Outcomes
 pub mod MemoryGrows
+pub mod Parked
 pub mod Parts
 pub mod Pauses
 pub mod Reopened

@@ -28,10 +28,10 @@ use Rattle.world_model.specs.World.{Program}
 use Rattle.interp.specs.declared.turns.Turn.{Turn}
 use Rattle.interp.specs.declared.turns.Turn.TheVariants.{Returned, Trapped, Waiting, StepsSpent}
 use Rattle.interp.specs.Instance.{Waits, inside, Turns, Calls, CallsAs}
-use Rattle.host_laws.specs.Supplies.{Supply}
 use Rattle.host_laws.specs.Stretch.{Stretch, IsSpent, meeting}
 use Rattle.host_laws.specs.Places.{stands, goes_on}
 use Rattle.host_laws.proofs.Stretches.{compose}
+use Rattle.pause_host.specs.Mailing.{MailSupply}
 use Rattle.pause_host.specs.declared.stages.Moved.{Moved}
 use Rattle.pause_host.specs.declared.stages.Pause.{Pause}
 use Rattle.pause_host.specs.declared.stages.Stage.TheVariants as S
@@ -214,7 +214,7 @@ module _ (w : Program) where
         r.within
 
     -- asyncify_stop_unwind: the program is paused
-    pub stopped_unwind : (f : ℕ) (args : List Value) (m : Moved) (used_now : ℕ) (supply : Supply) (waits : Waits) → used_now ≡ used_of s' w.plan.area
+    pub stopped_unwind : (f : ℕ) (args : List Value) (m : Moved) (used_now : ℕ) (supply : MailSupply) (waits : Waits) → used_now ≡ used_of s' w.plan.area
         → m.event ≡ EV.Paused pause.answer.ticks used_now → m.stage ≡ S.Paused pause
         → Returns p s f args left used vs s' → Comes w (calling (unwinding pause) s f args pause_there l) left used m supply supply l s' waits
     stopped_unwind f args m used_now supply waits is_used e st r = record {
@@ -273,7 +273,7 @@ module _ (w : Program) where
         record { behind = note (ended (E.Trapped TrapV.Import)) after ∷ []; to = over after; leads = λ k more. refl; place = refl }
 
     -- asyncify_stop_rewind: the answer is told
-    pub stopped_rewind : (since at now : Store) (here : Activation) (under : List Activation) (f : ℕ) (args : List Value) (m : Moved) (supply : Supply) (waits : Waits)
+    pub stopped_rewind : (since at now : Store) (here : Activation) (under : List Activation) (f : ℕ) (args : List Value) (m : Moved) (supply : MailSupply) (waits : Waits)
         → now ≡ poked s' (answer_of pause.answer).pokes
         → waits ≡ inside here under → m.event ≡ EV.Answered pause.answer.said → m.stage ≡ stage_told (T.Entry pause.entry) pause.answer.said → Returns p s f args left used vs s'
         → Comes w (calling (rewinding pause since) s f args (give_answer (record { store = at; here = here; under = under })) l) left used m supply supply l now waits

@@ -2,7 +2,6 @@
 use Rattle.std.proofs.Common.{◌≡◌, ◌≤◌, ℕ, ◌+◌, ◌-◌, List, [], ◌∷◌, All, map, length, Result, Ok, Err, IfOk, refl, sym, ap, ◌∙◌, subst, arith}
 use Rattle.wa_types.specs.declared.values.Value.{Value}
 use Rattle.wa_model.specs.declared.events.End.{End}
-use Rattle.wa_model.specs.declared.events.End.TheVariants as E
 use Rattle.wa_model.specs.declared.events.Event.TheVariants as V
 use Rattle.wa_types.specs.Syntax.{Module}
 use Rattle.wa_model.specs.Outside.{ended}
@@ -18,10 +17,10 @@ use Rattle.wa_model.specs.Protocol.{exports_of, Held, free, over, held_on}
 use Rattle.world_model.specs.World.{Program}
 use Rattle.interp.specs.Instance as I
 use Rattle.interp.specs.Instance.{Waits}
-use Rattle.host_laws.specs.Supplies.{Supply}
 use Rattle.host_laws.specs.Stretch.{Stretch}
 use Rattle.host_laws.specs.Places.{stands, ends}
 use Rattle.host_laws.proofs.Stretches.{nowhere_on}
+use Rattle.pause_host.specs.Mailing.{MailSupply}
 use Rattle.pause_host.specs.declared.stages.EntryCall.{EntryCall}
 use Rattle.pause_host.specs.declared.exports.Exported.{Exported}
 use Rattle.pause_host.specs.declared.exports.Work.{Work}
@@ -32,17 +31,16 @@ use Rattle.pause_host.specs.declared.stages.Task.TheVariants as T
 use Rattle.pause_host.specs.Views.{entry_of, free_place, place_in}
 use Rattle.pause_host.specs.Moves.{Comes, ComesFrom, EndsAt, Exports, IsAsking, IsTask}
 use Rattle.pause_host.proofs.Comings.{ends_come, comes_behind}
-use Rattle.pause_host.proofs.Tasks.{done_comes}
 
 module _ {F : Type 0} (w : Program) (h : Held) where
   -- the end that was told
-  pub ended_ok : (left used : ℕ) (how : End) (s : Store) (r : Result Moved F) (supply : Supply) (l : Left) (waits : Waits) → IfOk r (λ m. m.event ≡ V.Ended how) → IfOk r (λ m. m.stage ≡ S.Ended how)
+  pub ended_ok : (left used : ℕ) (how : End) (s : Store) (r : Result Moved F) (supply : MailSupply) (l : Left) (waits : Waits) → IfOk r (λ m. m.event ≡ V.Ended how) → IfOk r (λ m. m.stage ≡ S.Ended how)
       → EndsAt w h left used how s → IfOk r (λ m. Comes w h left used m supply supply l s waits)
   ended_ok left used how s (Ok m) supply l waits e st k = ends_come w h left used how s m supply l waits k e st
   ended_ok left used how s (Err d) supply l waits e st k = tt
 
   -- behind a stretch, where l0 and u0 were left and used before it, l1 and u1 behind it, and u2 in the end
-  pub behind_ok : (h1 : Held) (ready : List Note) (l0 u0 l1 u1 u2 : ℕ) (r : Result Moved F) (supply supply' : Supply) (l : Left) (s : Store) (waits : Waits) → l1 + u1 ≡ l0 + u0 → u0 ≤ u1 → u1 ≤ u2
+  pub behind_ok : (h1 : Held) (ready : List Note) (l0 u0 l1 u1 u2 : ℕ) (r : Result Moved F) (supply supply' : MailSupply) (l : Left) (s : Store) (waits : Waits) → l1 + u1 ≡ l0 + u0 → u0 ≤ u1 → u1 ≤ u2
       → Stretch w.source w.plan h [] ready (u1 - u0) h1 → IfOk r (λ m. ComesFrom w (stands ready h1) l1 (u2 - u1) m supply supply' l s waits)
       → IfOk r (λ m. Comes w h l0 (u2 - u0) m supply supply' l s waits)
   behind_ok h1 ready l0 u0 l1 u1 u2 (Ok m) supply supply' l s waits sum a b stretch c =
@@ -64,7 +62,7 @@ task_asking task t at s waits is same e = subst (λ ws. IsAsking task ws s (insi
     by_task T.Outermost k = absurd k
 
 -- what comes next is an end that was ready
-pub ending_ok : {F : Type 0} (w : Program) (how : End) (s : Store) (left n : ℕ) (r : Result Moved F) (supply : Supply) (l : Left) (waits : Waits) → n ≡ 0
+pub ending_ok : {F : Type 0} (w : Program) (how : End) (s : Store) (left n : ℕ) (r : Result Moved F) (supply : MailSupply) (l : Left) (waits : Waits) → n ≡ 0
     → IfOk r (λ m. m.event ≡ V.Ended how) → IfOk r (λ m. m.stage ≡ S.Ended how)
     → IfOk r (λ m. ComesFrom w (stands (note (ended how) s ∷ []) (over s)) left n m supply supply l s waits)
 ending_ok w how s left n (Ok m) supply l waits z e st =

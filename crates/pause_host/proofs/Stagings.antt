@@ -21,9 +21,9 @@ use Rattle.run_laws.specs.FittingStates.{HeldFits}
 use Rattle.interp.specs.declared.turns.Turn.{Turn}
 use Rattle.interp.specs.Instance as I
 use Rattle.interp.specs.Instance.{Waits, Awaits, Resumes, Turns}
-use Rattle.host_laws.specs.Supplies.{Supply}
 use Rattle.host_laws.specs.Places.{Place, stands, nowhere, goes_on}
 use Rattle.host_laws.proofs.Stretches.{nowhere_on}
+use Rattle.pause_host.specs.Mailing.{MailSupply}
 use Rattle.pause_host.specs.declared.stages.Moved.{Moved}
 use Rattle.pause_host.specs.declared.stages.Pause.{Pause}
 use Rattle.pause_host.specs.declared.stages.Stage.TheVariants as S
@@ -43,7 +43,7 @@ module _ (w : Program) where
   abbrev Place_of : Store → TV.Task → Waits → Left → Said → Store → Place
   Place_of s task waits l said s' = with_asker nowhere s task waits (answering l said s')
 
-  told_next : (from : Place) (left : ℕ) (m : Moved) (supply : Supply) (l : Left) (said : Said) (s' : Store) (waits : Waits) (behind : List Note) (h : Held)
+  told_next : (from : Place) (left : ℕ) (m : Moved) (supply : MailSupply) (l : Left) (said : Said) (s' : Store) (waits : Waits) (behind : List Note) (h : Held)
       → from ≡ stands (note (answered said) s' ∷ behind) h → m.event ≡ EV.Answered said
       → place_in (exports_of p) w.plan.area l s' waits m.stage ≡ stands behind h → ComesFrom w from left 0 m supply supply l s' waits
   told_next from left m supply l said s' waits behind h is ev place =
@@ -56,12 +56,12 @@ module _ (w : Program) where
       })
 
   -- behind a trap comes the end
-  trap_next : (from : Place) (left : ℕ) (m : Moved) (supply : Supply) (l : Left) (s' : Store) (waits : Waits) → from ≡ stands (import_traps s') (over s') → m.event ≡ EV.Answered SV.Trap
+  trap_next : (from : Place) (left : ℕ) (m : Moved) (supply : MailSupply) (l : Left) (s' : Store) (waits : Waits) → from ≡ stands (import_traps s') (over s') → m.event ≡ EV.Answered SV.Trap
       → m.stage ≡ S.Ending (E.Trapped Trap.Import) → ComesFrom w from left 0 m supply supply l s' waits
   trap_next from left m supply l s' waits is ev st =
       told_next from left m supply l SV.Trap s' waits (note (ended (E.Trapped Trap.Import)) s' ∷ []) (over s') is ev (ap (place_in (exports_of p) w.plan.area l s' waits) st)
 
-  pub tell_comes : (s : Store) (task : TV.Task) (waits : Waits) (left : ℕ) (m : Moved) (supply : Supply) (l : Left) (said : Said) (s' : Store)
+  pub tell_comes : (s : Store) (task : TV.Task) (waits : Waits) (left : ℕ) (m : Moved) (supply : MailSupply) (l : Left) (said : Said) (s' : Store)
       → PlaceFits w (Place_of s task waits l said s')
       → m.event ≡ EV.Answered said → m.stage ≡ stage_told task said
       → ComesFrom w (Place_of s task waits l said s') left 0 m supply supply l s' waits

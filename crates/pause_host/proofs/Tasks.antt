@@ -26,10 +26,10 @@ use Rattle.interp.specs.declared.turns.Turn.{Turn}
 use Rattle.interp.specs.declared.turns.Turn.TheVariants.{Returned, Trapped, Waiting, StepsSpent}
 use Rattle.interp.specs.Instance as I
 use Rattle.interp.specs.Instance.{Waits, Turns, Calls, CallsAs, IsCall}
-use Rattle.host_laws.specs.Supplies.{Supply}
 use Rattle.host_laws.specs.Stretch.{meeting, Stretch}
 use Rattle.host_laws.specs.Places.{stands, goes_on, ends}
 use Rattle.host_laws.proofs.Stretches.{compose, on_last, nowhere_on}
+use Rattle.pause_host.specs.Mailing.{MailSupply}
 use Rattle.pause_host.specs.declared.stages.Moved.{Moved}
 use Rattle.pause_host.specs.declared.stages.Stage.TheVariants as S
 use Rattle.pause_host.specs.Views.{place_in, free_place}
@@ -92,7 +92,7 @@ module _ (w : Program) where
         )
 
   -- an entry returned
-  pub entry_returned : (h : Held) (l l' : Left) (e : Entry) (left used : ℕ) (v : Option Value) (s : Store) (waits : Waits) (m : Moved) (supply : Supply) → l' ≡ next_entry l
+  pub entry_returned : (h : Held) (l l' : Left) (e : Entry) (left used : ℕ) (v : Option Value) (s : Store) (waits : Waits) (m : Moved) (supply : MailSupply) → l' ≡ next_entry l
       → m.event ≡ EV.Returned l.number v → m.stage ≡ S.Free
       → TaskTurn w h l (an_entry e) left used (Returned v) s waits → Comes w h left used m supply supply l' s waits
   entry_returned h l l' e left used v s waits m supply nl ev st (too_dear is h1) = cc
@@ -264,7 +264,7 @@ module _ (w : Program) where
 
   -- ---- all entries have returned
 
-  pub done_comes : (l : Left) (s : Store) (left : ℕ) (m : Moved) (supply : Supply) (l' : Left) (waits : Waits) → l.entries ≡ [] → m.event ≡ EV.Ended E.Done → m.stage ≡ S.Ended E.Done
+  pub done_comes : (l : Left) (s : Store) (left : ℕ) (m : Moved) (supply : MailSupply) (l' : Left) (waits : Waits) → l.entries ≡ [] → m.event ≡ EV.Ended E.Done → m.stage ≡ S.Ended E.Done
       → ComesFrom w (free_place l s) left 0 m supply supply l' s waits
   done_comes l s left m supply l' waits none ev st =
       subst (λ es. ComesFrom w (stands (done_notes s es) (held_on s l es)) left 0 m supply supply l' s waits) (sym none)

@@ -1,9 +1,8 @@
 -- What comes of a stage, an event or a new call, behind parts of the way to it.
-use Rattle.std.proofs.Common.{◌≡◌, ◌≤◌, ℕ, ◌+◌, ◌-◌, ◌++◌, List, [], ◌∷◌, Result, Ok, Err, IfOk, refl, sym, ap, ◌∙◌, subst, arith}
+use Rattle.std.proofs.Common.{◌≡◌, ℕ, ◌+◌, List, [], ◌∷◌, Result, Ok, Err, IfOk, refl, sym, ap, subst, arith}
 use Rattle.wa_model.specs.declared.events.Call.{Call}
 use Rattle.wa_model.specs.declared.events.End.{End}
 use Rattle.wa_model.specs.declared.events.End.TheVariants as E
-use Rattle.wa_model.specs.Machine.{Leads}
 use Rattle.wa_model.specs.Outside.{ended}
 use Rattle.wa_model.specs.Store.{Store}
 use Rattle.wa_model.specs.Blocking.{Note, note, Left, no_store}
@@ -17,7 +16,7 @@ use Rattle.pause_host.specs.declared.stages.Moved.{Moved}
 use Rattle.pause_host.specs.declared.stages.Next.{Next}
 use Rattle.pause_host.specs.declared.stages.Next.TheVariants as N
 use Rattle.pause_host.specs.declared.stages.Task.{Task}
-use Rattle.pause_host.specs.Moves.{Asks, CallComes, EndsAt, NextFrom, TellsEnd}
+use Rattle.pause_host.specs.Moves.{CallComes, EndsAt, NextFrom, TellsEnd}
 use Rattle.pause_host.specs.Views.{free_place}
 use Rattle.pause_host.proofs.Comings.{ends_come, comes_behind}
 use Rattle.pause_host.proofs.Results.{ending_ok}

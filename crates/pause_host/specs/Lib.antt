@@ -1,6 +1,7 @@
 pub mod FromPlans
 pub mod Holding
 pub mod Hosting
+pub mod Mailing
 pub mod Moves
 pub mod Parting
 pub mod Programs

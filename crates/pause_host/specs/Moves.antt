@@ -29,8 +29,8 @@ use Rattle.interp.specs.Instance as I
 use Rattle.interp.specs.Instance.{Waits}
 use Rattle.host_laws.specs.Answering.{IsShort}
 use Rattle.host_laws.specs.Stretch.{meeting, Stretch, IsSpent}
-use Rattle.host_laws.specs.Supplies.{Supply, bound_to}
-use Rattle.host_laws.specs.Places.{Place, stands, has_ended, nowhere, TellsFrom}
+use Rattle.host_laws.specs.Supplies.{bound_to}
+use Rattle.host_laws.specs.Places.{Place, stands, has_ended, nowhere}
 use Rattle.pause_host.specs.declared.exports.Exported.{Exported}
 use Rattle.pause_host.specs.declared.exports.Exported.TheVariants as X
 use Rattle.pause_host.specs.declared.exports.Work.{Work}
@@ -43,6 +43,7 @@ use Rattle.pause_host.specs.declared.stages.Setting.{Setting}
 use Rattle.pause_host.specs.declared.stages.Stage.TheVariants as StageV
 use Rattle.pause_host.specs.declared.stages.Task.{Task}
 use Rattle.pause_host.specs.declared.stages.Task.TheVariants as T
+use Rattle.pause_host.specs.Mailing.{MailSupply, TellsMailFrom}
 use Rattle.pause_host.specs.Views.{exports_in, entry_of, is_pause, is_paused, place_in}
 
 -- the setting is that of a program of a world, over a valid module with a memory and with the five exports
@@ -73,19 +74,19 @@ HasShortPokes l = All IsShort l.answer.pokes
 -- ---- one event
 
 -- A program of a world told this event, at which this store stands.
-pub record Moves (w : Program) (from : Place) (left : ℕ) (supply : Supply) (event : EventValue) (store : Store) (used : ℕ) (supply' : Supply) (to : Place) : Type 0 where
+pub record Moves (w : Program) (from : Place) (left : ℕ) (supply : MailSupply) (event : EventValue) (store : Store) (used : ℕ) (supply' : MailSupply) (to : Place) : Type 0 where
   pub note : Note
   pub event_is : note.event ≡ event_of event
   pub store_is : note.store ≡ store
-  pub tells : TellsFrom w from left supply note used supply' to
+  pub tells : TellsMailFrom w from left supply note used supply' to
 
 -- The next event from where the machine stands, and the stage that it leads to, over a store and what waits in the instance.
-abbrev pub ComesFrom : Program → Place → (left used : ℕ) → Moved → (supply supply' : Supply) → B.Left → Store → Waits → Type 0
+abbrev pub ComesFrom : Program → Place → (left used : ℕ) → Moved → (supply supply' : MailSupply) → B.Left → Store → Waits → Type 0
 ComesFrom w from left used m supply supply' l s waits =
     Moves w from left supply m.event s used supply' (place_in (exports_of w.source) w.plan.area l s waits m.stage)
 
 -- The same from a state of the machine.
-abbrev pub Comes : Program → Held → (left used : ℕ) → Moved → (supply supply' : Supply) → B.Left → Store → Waits → Type 0
+abbrev pub Comes : Program → Held → (left used : ℕ) → Moved → (supply supply' : MailSupply) → B.Left → Store → Waits → Type 0
 Comes w h left used m supply supply' l s waits = ComesFrom w (stands [] h) left used m supply supply' l s waits
 
 -- The program is then paused exactly where the event is a pause.
@@ -162,7 +163,7 @@ pub record CallComes (w : Program) (from : Place) (left used : ℕ) (task : Task
 
 -- An event comes, which takes nothing of what answers calls; or a new call does.
 abbrev pub NextFrom : Program → Place → (left used : ℕ) → Next → B.Left → Store → Waits → Type 0
-NextFrom w from left used (N.Told m) l s waits = (supply : Supply) → ComesFrom w from left used m supply supply l s waits
+NextFrom w from left used (N.Told m) l s waits = (supply : MailSupply) → ComesFrom w from left used m supply supply l s waits
 NextFrom w from left used (N.Calls task call) l s waits = CallComes w from left used task call l s waits
 
 -- Where it is an event, the program is then paused exactly where that is a pause.

@@ -1,5 +1,5 @@
 -- A program as plain data, and what its calls do.
-use Rattle.std.specs.Prelude.{◌≡◌, ◌<◌, ◌≤◌, ◌^◌, ◌++◌, ℕ, List, [], ◌∷◌, length, map, Option, Some, None, All, Bool, true, false, Result, Ok, Err, slice_get}
+use Rattle.std.specs.Prelude.{if◌then◌else◌, ◌≡◌, ◌<◌, ◌≤◌, ◌^◌, ◌++◌, ℕ, List, [], ◌∷◌, length, map, Option, Some, None, All, Bool, true, false, Result, Ok, Err, slice_get}
 use Rattle.std.specs.Option.{option_map, unwrap_or}
 use Rattle.wa_types.specs.Syntax.{Module}
 use Rattle.wa_types.specs.Modules.{imported, imported_global, func_imports}
@@ -31,11 +31,17 @@ use Rattle.host_laws.specs.Supplies.{Supply, Takes}
 use Rattle.pause_host.specs.Views.{exports_in, is_pause, is_paused, left_of, lines_in, place_in}
 use Rattle.pause_host.specs.Holding.{PlaceHolds}
 use Rattle.pause_host.specs.Moves.{IsSetting, PlaceFits, HasShortPokes}
+use Rattle.mailbox_device.specs.Mail.{Mail}
+use Rattle.mail_laws.specs.MailWorld.{told_pause}
+use Rattle.mail_laws.specs.Told.{Await}
+use Rattle.pause_host.specs.Mailing.{MailSupply, TakesMail, amid_of, awaits_in, mail_supply}
 use Rattle.pause_host.specs.Settings.{calls_of}
 use Rattle.pause_host.specs.declared.plan.Plan.{Plan}
 use Rattle.pause_host.specs.declared.program.State.{State}
 use Rattle.pause_host.specs.declared.program.State.TheVariants.{Fresh, Live, Failed, Lost}
 use Rattle.pause_host.specs.declared.program.Program.{Program}
+use Rattle.pause_host.specs.declared.stages.Stage.{Stage}
+use Rattle.pause_host.specs.declared.stages.Stage.TheVariants.{Ended, Ending}
 
 -- ---- a plan
 
@@ -148,6 +154,47 @@ supply_with x ds faults = record { lines = lines_left x; devices = ds; faults = 
 abbrev pub supply_of : {X : Type 0} {F : X → Type 0} → ((x : X) × F x → Device) → ((x : X) × F x → ℕ) → Program → Devices X F → Supply
 supply_of seen faults x devices = supply_with x (of_all seen devices) (of_all faults devices)
 
+-- ---- mailboxes
+
+-- its receive that wasn't answered
+abbrev pub receive_in : Program → Option Await
+receive_in x = awaits_in x.setting x.receive
+
+-- the end at which a stage stands: it is told next, or was told
+abbrev pub end_due : Stage → Option End
+end_due (Ending how) = Some how
+end_due (Ended how) = Some how
+end_due _ = None
+
+-- the same of a state
+abbrev pub ends_at : State → Option End
+ends_at (Live instance stage) = end_due stage
+ends_at (Failed how) = Some how
+ends_at _ = None
+
+-- the end at which a program stands: it is told next, or was told
+abbrev pub ending_in : Program → Option End
+ending_in x = ends_at x.state
+
+-- a state behind the end that was told
+abbrev pub behind_end : End → State → State
+behind_end how (Live instance stage) = Live instance (Ended how)
+behind_end how state = state
+
+-- the name of the mailbox at which it is parked: it is paused at a receive that wasn't answered
+abbrev pub parked_in : Program → Option (List ℕ)
+parked_in x = if is_at_pause x.state then option_map (λ (r : Await). r.box) (receive_in x) else None
+
+-- what answers its calls: these devices with their counts of faults, and these mailboxes,
+abbrev pub mail_supply_with : Program → List Device → (faults : List ℕ) → Mail → MailSupply
+mail_supply_with x ds faults mail = record { lines = lines_left x; amid = amid_of ds mail (receive_in x); faults = faults }
+
+-- those of a caller
+abbrev pub mail_supply_of : {X : Type 0} {F : X → Type 0} → ((x : X) × F x → Device) → ((x : X) × F x → ℕ) → Program → Devices X F → Mail → MailSupply
+mail_supply_of seen faults x devices mail = mail_supply seen faults (lines_left x) devices mail (receive_in x)
+
+-- ---- on its way
+
 -- The program has told these notes of a program of a world, its calls met these outcomes, and it stands here.
 pub record FollowsAt (w : W.Program) (notes : List Note) (os : List Outcome) (x : Program) (place : Place) : Type 0 where
   pub source : w.source ≡ module_of x.valid.now
@@ -180,6 +227,10 @@ pub record OnItsWay (x : Program) (place : Place) (state : State) : Type 0 where
 abbrev pub IsOnItsWay : Program → Type 0
 IsOnItsWay x = OnItsWay x (place_of x x.state) x.state
 
+-- It stands at its end, or is on its way.
+abbrev pub MayGoOn : Program → Type 0
+MayGoOn x = ending_in x ≡ None → IsOnItsWay x
+
 -- It told one note more, with this event, and a new call met an outcome as a world has it, by what answers calls before and behind
 -- it; the instance has that note's store; and where the event is its end, it has ended so.
 pub record Advances (w : W.Program) (notes : List Note) (os : List Outcome) (event : EventValue) (old new : Supply) (x : Program) : Type 0 where
@@ -191,6 +242,23 @@ pub record Advances (w : W.Program) (notes : List Note) (os : List Outcome) (eve
   pub ended_is : ended_as x ≡ end_in note.event
   pub takes : Takes w (call_in note.event) old met new
   pub follows : Follows w (notes ++ note ∷ []) (os ++ met) x
+
+-- The same where there are mailboxes, as far as it is known what calls met: a receive at an empty mailbox met a zero behind a pause.
+pub record MailAdvances (w : W.Program) (notes : List Note) (os : List Outcome) (event : EventValue) (old new : MailSupply) (x : Program) : Type 0 where
+  pub note : Note
+  pub met : List Outcome
+  pub event_is : note.event ≡ event_of event
+  pub store_is : note.store ≡ store_of x.state
+  pub memory_is : memory_in x ≡ note.store.memory
+  pub ended_is : ended_as x ≡ end_in note.event
+  pub takes : TakesMail w (call_in note.event) old met new
+  pub follows : Follows w (notes ++ note ∷ []) (os ++ met) x
+
+-- .. and the pause of a receive that wasn't answered is told as parking.
+pub record TellsNext (w : W.Program) (notes : List Note) (os : List Outcome) (event : Event) (old new : MailSupply) (x : Program) : Type 0 where
+  pub noted : EventValue
+  pub advances : MailAdvances w notes os noted old new x
+  pub event_is : event ≡ told_pause (receive_in x) (event_of noted)
 
 -- ---- a program alone, without devices
 

@@ -19,12 +19,8 @@ use Rattle.wa_model.specs.Blocking as B
 use Rattle.wa_model.specs.Blocking.{note, poked, resumed, the_start, an_entry, Asker, inside, outermost, done_notes, import_traps}
 use Rattle.wa_model.specs.Protocol as P
 use Rattle.wa_model.specs.Protocol.{Phase, is_running, unwinds, rewinds, give_zero, call_again, busy, calling, over, held_on, with_words}
-use Rattle.world_model.specs.World.{Device}
-use Rattle.device_port.specs.declared.devices.Devices.{Devices}
-use Rattle.device_port.specs.Listed.{of_all}
 use Rattle.interp.specs.Instance as I
 use Rattle.interp.specs.Instance.{Waits}
-use Rattle.host_laws.specs.Supplies.{Supply}
 use Rattle.host_laws.specs.Places.{Place, stands, has_ended, nowhere}
 use Rattle.pause_host.specs.Holding.{are_inside, is_held}
 use Rattle.pause_host.specs.declared.stages.Exports.{Exports}
@@ -51,10 +47,6 @@ left_of l = record { number = l.number; entries = map entry_of l.entries.items; 
 -- the answer lines left
 abbrev pub lines_in : List AnswerLineValue → List AnswerLine
 lines_in answers = map answer_line_of answers
-
--- what answers a program's calls: the answer lines left, and a caller's devices with their counts of faults
-abbrev pub supply_in : {X : Type 0} {F : X → Type 0} → ((x : X) × F x → Device) → ((x : X) × F x → ℕ) → List AnswerLineValue → Devices X F → Supply
-supply_in seen faults answers devices = record { lines = lines_in answers; devices = of_all seen devices; faults = of_all faults devices }
 
 -- ---- phases of a pause
 

@@ -11,8 +11,8 @@ ghost use Rattle.world_model.specs.World.{Program};
 ghost use Rattle.run_laws.specs.FittingStates.{HeldFits};
 ghost use Rattle.interp.specs.Host.{code_in, store_in, waits_in};
 ghost use Rattle.interp.specs.Instance.{inside};
-ghost use Rattle.host_laws.specs.Supplies.{Supply};
 ghost use Rattle.pause_host.specs.Hosting.{HostsIn, HostsOver};
+ghost use Rattle.pause_host.specs.Mailing.{MailSupply};
 ghost use Rattle.pause_host.specs.Moves.{Comes, IsSetting, PausesSo};
 ghost use Rattle.pause_host.specs.Views.{entry_of, rewinding};
 
@@ -35,7 +35,7 @@ pub fn rewind(
     requires few { steps.old.left + steps.old.used < 2 ^ 64 }
     requires there { HostsIn setting.now (code_in instance.old)
         (λ w l. calling (rewinding pause (store_in instance.old)) (store_in instance.old) (exports_of w.source).start_rewind (V.I32 w.plan.area.at ∷ []) call_again l) }
-    ensures comes { (w : Program) (l : PlainLeft) (supply : Supply) → IsSetting w setting.now → code_in instance.old ≡ w.source
+    ensures comes { (w : Program) (l : PlainLeft) (supply : MailSupply) → IsSetting w setting.now → code_in instance.old ≡ w.source
         → HeldFits w.source (calling (rewinding pause (store_in instance.old)) (store_in instance.old) (exports_of w.source).start_rewind (V.I32 w.plan.area.at ∷ []) call_again l)
         → IfOk result (λ m. Comes w (calling (rewinding pause (store_in instance.old)) (store_in instance.old) (exports_of w.source).start_rewind (V.I32 w.plan.area.at ∷ []) call_again l)
         steps.old.left (steps.new.used - steps.old.used) m supply supply l (store_in instance.new) (waits_in instance.new)) }
@@ -61,7 +61,7 @@ fn call_again(
 ) -> Result<Moved, AllocError>
     requires few { steps.old.left + steps.old.used < 2 ^ 64 }
     requires there { HostsIn setting.now (code_in instance.old) (λ w l. entering (rewinding pause (store_in instance.old)) (entry_of pause.entry) (store_in instance.old) l) }
-    ensures comes { (w : Program) (l : PlainLeft) (supply : Supply) (since : Store) → IsSetting w setting.now → code_in instance.old ≡ w.source
+    ensures comes { (w : Program) (l : PlainLeft) (supply : MailSupply) (since : Store) → IsSetting w setting.now → code_in instance.old ≡ w.source
         → HeldFits w.source (entering (rewinding pause since) (entry_of pause.entry) (store_in instance.old) l)
         → IfOk result (λ m. Comes w (entering (rewinding pause since) (entry_of pause.entry) (store_in instance.old) l) steps.old.left (steps.new.used - steps.old.used) m supply supply l
         (store_in instance.new) (waits_in instance.new)) }
@@ -93,7 +93,7 @@ fn test_rewound(
     requires few { steps.old.left + steps.old.used < 2 ^ 64 }
     requires there { HostsOver setting.now (code_in instance.old) (waits_in instance.old) (λ w l here under. calling (rewinding pause (store_in instance.old)) (store_in instance.old)
         (exports_of w.source).get_state [] (test_rewound (record { store = store_in instance.old; here = here; under = under })) l) }
-    ensures comes { (w : Program) (l : PlainLeft) (supply : Supply) (since at : Store) (here : Activation) (under : List Activation) → IsSetting w setting.now
+    ensures comes { (w : Program) (l : PlainLeft) (supply : MailSupply) (since at : Store) (here : Activation) (under : List Activation) → IsSetting w setting.now
         → code_in instance.old ≡ w.source → waits_in instance.old ≡ inside here under → HeldFits w.source
         (calling (rewinding pause since) (store_in instance.old) (exports_of w.source).get_state [] (test_rewound (record { store = at; here = here; under = under })) l)
         → IfOk result (λ m. Comes w (calling (rewinding pause since) (store_in instance.old) (exports_of w.source).get_state []
@@ -127,7 +127,7 @@ fn stop_rewind(
     requires few { steps.old.left + steps.old.used < 2 ^ 64 }
     requires there { HostsOver setting.now (code_in instance.old) (waits_in instance.old) (λ w l here under. calling (rewinding pause (store_in instance.old)) (store_in instance.old)
         (exports_of w.source).stop_rewind [] (give_answer (record { store = store_in instance.old; here = here; under = under })) l) }
-    ensures comes { (w : Program) (l : PlainLeft) (supply : Supply) (since at : Store) (here : Activation) (under : List Activation) → IsSetting w setting.now
+    ensures comes { (w : Program) (l : PlainLeft) (supply : MailSupply) (since at : Store) (here : Activation) (under : List Activation) → IsSetting w setting.now
         → code_in instance.old ≡ w.source → waits_in instance.old ≡ inside here under → HeldFits w.source
         (calling (rewinding pause since) (store_in instance.old) (exports_of w.source).stop_rewind [] (give_answer (record { store = at; here = here; under = under })) l)
         → IfOk result (λ m. Comes w (calling (rewinding pause since) (store_in instance.old) (exports_of w.source).stop_rewind []

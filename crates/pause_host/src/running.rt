@@ -1,6 +1,6 @@
 //! What comes of each stage but the pauses: the start function, entries, and calls of imports with their answers.
 
-ghost use Rattle.std.specs.Prelude.{◌≡◌, ◌<◌, ◌≤◌, ◌+◌, ◌-◌, ◌^◌, ℕ, List, [], ◌∷◌, All, IfOk, IsErr, OnOk, None, false, map, slice_get, length};
+ghost use Rattle.std.specs.Prelude.{◌≡◌, ◌<◌, ◌≤◌, ◌+◌, ◌-◌, ◌^◌, ℕ, List, [], ◌∷◌, All, Option, IfOk, IsErr, OnOk, None, false, map, slice_get, length};
 ghost use Rattle.std.specs.Option.{option_map, option_to_list};
 ghost use Rattle.wa_types.specs.Modules.{func_imports};
 ghost use Rattle.wa_model.specs.Store.{Store};
@@ -14,21 +14,24 @@ ghost use Rattle.interp.specs.Instance.{Calls, Waits};
 ghost use Rattle.device_port.specs.Listed.{of_all};
 ghost use Rattle.host_laws.specs.Answering.{IsShort, listed_of};
 ghost use Rattle.host_laws.specs.Places.{Place, stands};
-ghost use Rattle.host_laws.specs.Supplies.{RisesAtMostOne, Supply};
+ghost use Rattle.host_laws.specs.Supplies.{RisesAtMostOne};
 ghost use Rattle.pause_host.specs.Holding.{HoldsArea, PokesInside};
 ghost use Rattle.pause_host.specs.Hosting.{AsksOnly, CallsOne, HasMemory, HostsAt, MayAsk, StartRan, StopsFirst};
+ghost use Rattle.pause_host.specs.Mailing.{MailSupply, awaits_in, latest, mail_supply};
 ghost use Rattle.pause_host.specs.Moves.{Asks, Comes, ComesFrom, HasShortPokes, IsAsking, IsSetting, IsTask, NextFrom, NextPauses, PausesSo, PlaceFits, TaskTurn};
-ghost use Rattle.pause_host.specs.Views.{entry_of, free_place, is_paused, left_of, lines_in, place_in, stage_after, starts, supply_in};
+ghost use Rattle.pause_host.specs.Views.{entry_of, free_place, is_paused, left_of, lines_in, place_in, stage_after, starts};
 
-use crate::asking::next_outcome;
+use crate::asking::{Asked, next_outcome};
 use crate::ends::ends;
 use crate::memory::write_pokes;
 use crate::stages::{
-    EntryCall, Given, HostImport, Left, Moved, Next, Pause, Setting, Stage, Task, stage_told,
+    EntryCall, Given, Heard, HostImport, Left, Moved, NewCall, Next, Pause, Setting, Stage, Task,
+    stage_told,
 };
 use device_port::Devices;
 use host_laws::{AnsweredCall, Met, answer_fault};
 use interp::{Instance, Steps, Turn};
+use mailbox_device::Mailboxes;
 use std::alloc::AllocError;
 use std::collections::VecDeque;
 use wa_model::{Answer, AnswerLine, Call, End, Event};
@@ -194,23 +197,31 @@ pub(crate) fn told(
     instance: &Instance<'_>,
     answers: &mut VecDeque<AnswerLine>,
     devices: &mut Devices<'_>,
+    mail: &mut Mailboxes,
     next: Next,
-) -> Result<Moved, AllocError>
+) -> Result<Heard, AllocError>
     requires memory { HasMemory (code_in instance.now) }
     requires asks { MayAsk setting.now (store_in instance.now) next }
     requires paused { NextPauses next }
     ensures comes { (w : Program) → IsSetting w setting.now → code_in instance.now ≡ w.source → All HasShortPokes (lines_in answers.old.items)
-        → (from : Place) (l : PlainLeft) (left_then used : ℕ) → NextFrom w from left_then used next l (store_in instance.now) (waits_in instance.now)
-        → IfOk result (λ m. ComesFrom w from left_then used m (supply_in seen faults answers.old.items devices.old) (supply_in seen faults answers.new.items devices.new) l
-        (store_in instance.now) (waits_in instance.now)) }
-    ensures pauses { IfOk result PausesSo }
+        → (from : Place) (l : PlainLeft) (left_then used : ℕ) (r : Option ℕ) → NextFrom w from left_then used next l (store_in instance.now) (waits_in instance.now)
+        → IfOk result (λ h. ComesFrom w from left_then used h.moved (mail_supply seen faults (lines_in answers.old.items) devices.old mail.old (awaits_in setting.now r))
+        (mail_supply seen faults (lines_in answers.new.items) devices.new mail.new (awaits_in setting.now (latest h.receive r))) l (store_in instance.now) (waits_in instance.now)) }
+    ensures pauses { IfOk result (λ h. PausesSo h.moved) }
     ensures kept { IsErr result → of_all seen devices.new ≡ of_all seen devices.old }
     ensures once { IsErr result → RisesAtMostOne (of_all faults devices.old) (of_all faults devices.new) }
+    ensures mail { IsErr result → mail.new ≡ mail.old }
     ensures same_list { devices.new.list.ghost_name ≡ devices.old.list.ghost_name }
 {
     match next {
-        Next::Told(moved) => Ok(moved),
-        Next::Calls { task, call } => called(setting, instance, answers, devices, task, call),
+        Next::Told(moved) => {
+            let receive = None;
+            Ok(Heard { moved, receive })
+        }
+        Next::Calls { task, call } => {
+            let new_call = NewCall { task, call };
+            called(setting, instance, answers, devices, mail, new_call)
+        }
     }
 }
 
@@ -220,37 +231,42 @@ fn called(
     instance: &Instance<'_>,
     answers: &mut VecDeque<AnswerLine>,
     devices: &mut Devices<'_>,
-    task: Task,
-    call: Call,
-) -> Result<Moved, AllocError>
+    mail: &mut Mailboxes,
+    new_call: NewCall,
+) -> Result<Heard, AllocError>
     requires memory { HasMemory (code_in instance.now) }
     requires area { HoldsArea setting.now.area (store_in instance.now) }
-    requires import { call.import < length setting.now.imports.items }
+    requires import { new_call.call.import < length setting.now.imports.items }
     ensures comes { (w : Program) → IsSetting w setting.now → code_in instance.now ≡ w.source → All HasShortPokes (lines_in answers.old.items)
-        → (who : Asker) (h : Held) (l : PlainLeft) (left_then used : ℕ) → Asks w h used call.import call.args.items who l → used ≤ left_then
-        → IsAsking task (waits_in instance.now) (store_in instance.now) who → IfOk result
-        (λ m. Comes w h left_then used m (supply_in seen faults answers.old.items devices.old) (supply_in seen faults answers.new.items devices.new) l (store_in instance.now)
-        (waits_in instance.now)) }
-    ensures pauses { IfOk result PausesSo }
+        → (who : Asker) (h : Held) (l : PlainLeft) (left_then used : ℕ) (r : Option ℕ) → Asks w h used new_call.call.import new_call.call.args.items who l → used ≤ left_then
+        → IsAsking new_call.task (waits_in instance.now) (store_in instance.now) who → IfOk result
+        (λ x. Comes w h left_then used x.moved (mail_supply seen faults (lines_in answers.old.items) devices.old mail.old (awaits_in setting.now r))
+        (mail_supply seen faults (lines_in answers.new.items) devices.new mail.new (awaits_in setting.now (latest x.receive r))) l (store_in instance.now) (waits_in instance.now)) }
+    ensures pauses { IfOk result (λ x. PausesSo x.moved) }
     ensures kept { IsErr result → of_all seen devices.new ≡ of_all seen devices.old }
     ensures once { IsErr result → RisesAtMostOne (of_all faults devices.old) (of_all faults devices.new) }
+    ensures mail { IsErr result → mail.new ≡ mail.old }
     ensures same_list { devices.new.list.ghost_name ≡ devices.old.list.ghost_name }
 {
+    let NewCall { task, call } = new_call;
     let import = &setting.imports[call.import as usize];
     let Some(memory) = instance.memory() else {
         unreachable!();
     };
     let size = memory.len() as u64;
-    match next_outcome(setting, import, &call, answers, devices)? {
+    let Asked { met, receive } = next_outcome(setting, import, &call, answers, devices, mail)?;
+    match met {
         Met::Refused(end) => {
             let stage = Stage::Ending(end);
             let event = Event::Called(call);
-            return Ok(Moved { event, stage });
+            let moved = Moved { event, stage };
+            return Ok(Heard { moved, receive });
         }
         Met::Given(answer) => {
             let stage = answered(setting, import, size, task, call.import, answer);
             let event = Event::Called(call);
-            return Ok(Moved { event, stage });
+            let moved = Moved { event, stage };
+            return Ok(Heard { moved, receive });
         }
     }
 }
@@ -321,7 +337,7 @@ fn passed(task: Task, import: u32, answer: Answer) -> Stage
 pub(crate) fn tell_answer(instance: &mut Instance<'_>, task: Task, answer: Answer) -> Moved
     requires memory { HasMemory (code_in instance.old) }
     requires inside { PokesInside (length (store_in instance.old).memory) (answer_of answer).pokes }
-    ensures comes { (w : Program) (l : PlainLeft) (supply : Supply) (left_then : ℕ) → PlaceFits w
+    ensures comes { (w : Program) (l : PlainLeft) (supply : MailSupply) (left_then : ℕ) → PlaceFits w
         (place_in (exports_of w.source) w.plan.area l (store_in instance.old) (waits_in instance.old) (Stage.Answering task answer))
         → ComesFrom w (place_in (exports_of w.source) w.plan.area l (store_in instance.old) (waits_in instance.old) (Stage.Answering task answer)) left_then 0 result supply
         supply l (store_in instance.new) (waits_in instance.new) }

@@ -104,6 +104,20 @@ pub struct Moved {
     pub stage: Stage,
 }
 
+/// An event, where the program then stands, and its import where it tells a receive at an empty mailbox.
+#[derive(Drop)]
+pub struct Heard {
+    pub moved: Moved,
+    pub receive: Option<u32>,
+}
+
+/// A new call of an import, for a task.
+#[derive(Drop)]
+pub struct NewCall {
+    pub task: Task,
+    pub call: Call,
+}
+
 /// What comes of a stage: an event, or a new call of an import for a task, whose outcome is asked for next.
 #[derive(Drop)]
 pub enum Next {

@@ -13,8 +13,8 @@ ghost use Rattle.world_model.specs.World.{Program};
 ghost use Rattle.run_laws.specs.FittingStates.{HeldFits};
 ghost use Rattle.interp.specs.Host.{code_in, store_in, waits_in};
 ghost use Rattle.interp.specs.Instance.{inside, nothing};
-ghost use Rattle.host_laws.specs.Supplies.{Supply};
 ghost use Rattle.pause_host.specs.Hosting.{HostsAt, HostsIn, HostsOver};
+ghost use Rattle.pause_host.specs.Mailing.{MailSupply};
 ghost use Rattle.pause_host.specs.Moves.{Comes, ComesFrom, IsSetting, PausesSo, PlaceFits};
 ghost use Rattle.pause_host.specs.Views.{entry_of, pausing, unwinding};
 
@@ -38,7 +38,7 @@ pub fn unwind(
     requires waits { waits_in instance.old ≡ nothing → ⊥ }
     requires there { (l : PlainLeft) × HostsAt setting.now (code_in instance.old)
         (λ w. pausing (exports_of w.source) w.plan.area l (entry_of pause.entry) pause.import (answer_of pause.answer) (store_in instance.old) (waits_in instance.old)) }
-    ensures comes { (w : Program) (l : PlainLeft) (supply : Supply) → IsSetting w setting.now → code_in instance.old ≡ w.source
+    ensures comes { (w : Program) (l : PlainLeft) (supply : MailSupply) → IsSetting w setting.now → code_in instance.old ≡ w.source
         → PlaceFits w (pausing (exports_of w.source) w.plan.area l (entry_of pause.entry) pause.import (answer_of pause.answer) (store_in instance.old) (waits_in instance.old))
         → IfOk result (λ m. ComesFrom w (pausing (exports_of w.source) w.plan.area l (entry_of pause.entry) pause.import (answer_of pause.answer) (store_in instance.old)
         (waits_in instance.old)) steps.old.left (steps.new.used - steps.old.used) m supply supply l (store_in instance.new) (waits_in instance.new)) }
@@ -67,7 +67,7 @@ fn give_zero(
     requires waits { waits_in instance.old ≡ nothing → ⊥ }
     requires there { HostsOver setting.now (code_in instance.old) (waits_in instance.old)
         (λ w l here under. busy (unwinding pause) (resumed (record { store = store_in instance.old; here = here; under = under }) (store_in instance.old) (zeros_of w.source pause.import)) l) }
-    ensures comes { (w : Program) (l : PlainLeft) (supply : Supply) (here : Activation) (under : List Activation) → IsSetting w setting.now → code_in instance.old ≡ w.source
+    ensures comes { (w : Program) (l : PlainLeft) (supply : MailSupply) (here : Activation) (under : List Activation) → IsSetting w setting.now → code_in instance.old ≡ w.source
         → waits_in instance.old ≡ inside here under → HeldFits w.source (busy (unwinding pause)
         (resumed (record { store = store_in instance.old; here = here; under = under }) (store_in instance.old) (zeros_of w.source pause.import)) l)
         → IfOk result (λ m. Comes w (busy (unwinding pause) (resumed (record { store = store_in instance.old; here = here; under = under }) (store_in instance.old)
@@ -126,7 +126,7 @@ fn test_unwound(
 ) -> Result<Moved, AllocError>
     requires few { steps.old.left + steps.old.used < 2 ^ 64 }
     requires there { HostsIn setting.now (code_in instance.old) (λ w l. calling (unwinding pause) (store_in instance.old) (exports_of w.source).get_state [] test_unwound l) }
-    ensures comes { (w : Program) (l : PlainLeft) (supply : Supply) → IsSetting w setting.now → code_in instance.old ≡ w.source
+    ensures comes { (w : Program) (l : PlainLeft) (supply : MailSupply) → IsSetting w setting.now → code_in instance.old ≡ w.source
         → HeldFits w.source (calling (unwinding pause) (store_in instance.old) (exports_of w.source).get_state [] test_unwound l)
         → IfOk result (λ m. Comes w (calling (unwinding pause) (store_in instance.old) (exports_of w.source).get_state [] test_unwound l) steps.old.left
         (steps.new.used - steps.old.used) m supply supply l (store_in instance.new) (waits_in instance.new)) }
@@ -157,7 +157,7 @@ fn stop_unwind(
 ) -> Result<Moved, AllocError>
     requires few { steps.old.left + steps.old.used < 2 ^ 64 }
     requires there { HostsIn setting.now (code_in instance.old) (λ w l. calling (unwinding pause) (store_in instance.old) (exports_of w.source).stop_unwind [] pause_there l) }
-    ensures comes { (w : Program) (l : PlainLeft) (supply : Supply) → IsSetting w setting.now → code_in instance.old ≡ w.source
+    ensures comes { (w : Program) (l : PlainLeft) (supply : MailSupply) → IsSetting w setting.now → code_in instance.old ≡ w.source
         → HeldFits w.source (calling (unwinding pause) (store_in instance.old) (exports_of w.source).stop_unwind [] pause_there l)
         → IfOk result (λ m. Comes w (calling (unwinding pause) (store_in instance.old) (exports_of w.source).stop_unwind [] pause_there l) steps.old.left
         (steps.new.used - steps.old.used) m supply supply l (store_in instance.new) (waits_in instance.new)) }
