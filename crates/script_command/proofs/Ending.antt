@@ -7,14 +7,21 @@ use Rattle.vault_port.proofs.Telling.{Becomes_then}
 use Rattle.vault_port.specs.declared.whole.PutFault.{PutFault}
 use Rattle.vault_port.specs.declared.whole.PutFault.TheVariants.{Fault, Memory}
 use Rattle.wa_model.specs.declared.answers.Detach.{Detach}
-use Rattle.script_model.specs.Transcript.{refusal_line, read_fault}
+use Rattle.script_model.specs.Transcript.{Refusal, refusal_line, read_fault}
+use Rattle.transcript.specs.Printing.{refusal_of}
 use Rattle.event_order.specs.Left.{Counted}
-use Rattle.transcript.specs.Refused.{status_of, EndsInMemory, FailsLast, Prints, PrintsMemory, PrintsMemoryPast, memory_line}
+use Rattle.transcript.specs.Refused.{EndsInMemory, FailsLast, PrintsMemory, PrintsMemoryPast, memory_line}
 use Rattle.transcript.proofs.Printed.{memory_alone}
 use Rattle.script_command.specs.declared.way.Way.{Way}
 use Rattle.script_command.specs.Playing.{Play, Cause, IsRefused, IsRead, detaches_in, refusal_of_cause}
 use Rattle.world_hosting.specs.Worlds.{AreBegun, AreEnded, AreTold, Part, PrintsPart, Tells, TellsPart}
-use Rattle.script_command.specs.Ends.{Call, call, done, memory, sink_fault, refused, read_fault_of, cause_line, HasEnd, IsLine}
+use Rattle.script_command.specs.Ends.{Call, call, done, memory, sink_fault, refused, read_fault_of, cause_line, HasEnd, IsLine, program_of_cause}
+use Rattle.script_command.specs.declared.stop.Stop.{Stop}
+use Rattle.script_command.specs.declared.stop.Stop.TheVariants as S
+use Rattle.script_command.specs.SnapshotCalls.{output}
+use Rattle.script_command.specs.SnapshotViews as T
+use Rattle.script_command.specs.SnapshotViews.{TellsLine}
+use Rattle.script_command.specs.Views.{Blames}
 use Rattle.script_command.specs.Transcripts.{IsTranscript, IsBeginning}
 use Rattle.script_command.specs.OfOriginals.{IsToldOf}
 use Rattle.world_hosting.proofs.DeviceLogs.{devices_logged}
@@ -39,21 +46,39 @@ out_of_memory_alone c status same nine h =
     let line = refusal_line None (read_fault c.name) in
     out_of_memory_behind c status nine 0 line (inr (inr (c.name, inl refl, refl, refl, same))) (past_none line _ _ c.taken c.taken' (memory_alone line _ _ c.taken c.taken' h))
 
-pub refused_for : (c : Call) (status : ℕ) (cause : Cause) → c.devices' ≡ c.devices → IsRefused c.way c.files c.name cause → (status ≡ status_of (refusal_of_cause cause)) ⊎ (status ≡ 9)
-    → (status ≡ status_of (refusal_of_cause cause) → Becomes c.taken c.taken' (Prints (cause_line cause) c.sink_faults c.sink_faults'))
-    → (status ≡ 9 → Becomes c.taken c.taken' (PrintsMemory (cause_line cause) c.sink_faults c.sink_faults')) → HasEnd c status
-refused_for c status cause same why by printed wanting = elim by [
-  | inl is ↦ record { which = refused cause; by_status = is; why = (why, printed is, same) }
-  | inr nine ↦ out_of_memory_behind c status nine 0 (cause_line cause) (inr (inl (cause, why, refl, refl, same))) (past_none (cause_line cause) _ _ c.taken c.taken' (wanting nine))
+-- what is printed of a refusal
+abbrev Printed : Call → (status : ℕ) → Option ℕ → Refusal → Type 0
+Printed c status program r = TellsLine program r status (output c.taken c.taken' c.sink_faults c.sink_faults')
+
+refused_so : (c : Call) (status : ℕ) (cause : Cause) → c.devices' ≡ c.devices → IsRefused c.way c.files c.name cause → Printed c status (program_of_cause cause) (refusal_of_cause cause)
+    → HasEnd c status
+refused_so c status cause same why h = elim h [
+  | inl told ↦ record { which = refused cause; by_status = told.0; why = (why, told.1, same) }
+  | inr nine ↦ out_of_memory_behind c status nine.0 0 (cause_line cause) (inr (inl (cause, why, refl, refl, same))) (past_none (cause_line cause) _ _ c.taken c.taken' nine.1)
 ]
 
-pub unread : (c : Call) (status : ℕ) (name : List ℕ) → c.devices' ≡ c.devices → IsRead c.way c.files c.name name → CannotRead c.files name c.fetch_faults c.fetch_faults'
-    → (status ≡ 10) ⊎ (status ≡ 9)
-    → (status ≡ 10 → Becomes c.taken c.taken' (Prints (refusal_line None (read_fault name)) c.sink_faults c.sink_faults'))
-    → (status ≡ 9 → Becomes c.taken c.taken' (PrintsMemory (refusal_line None (read_fault name)) c.sink_faults c.sink_faults')) → HasEnd c status
-unread c status name same is why by printed wanting = elim by [
-  | inl ten ↦ record { which = read_fault_of name; by_status = ten; why = (is, why, printed ten, same) }
-  | inr nine ↦ out_of_memory_behind c status nine 0 (refusal_line None (read_fault name)) (inr (inr (name, is, refl, refl, same))) (past_none (refusal_line None (read_fault name)) _ _ c.taken c.taken' (wanting nine))
+unread : (c : Call) (status : ℕ) (name : List ℕ) → c.devices' ≡ c.devices → IsRead c.way c.files c.name name → CannotRead c.files name c.fetch_faults c.fetch_faults' → Printed c status None (read_fault name)
+    → HasEnd c status
+unread c status name same is why h = elim h [
+  | inl told ↦ record { which = read_fault_of name; by_status = told.0; why = (is, why, told.1, same) }
+  | inr nine ↦
+      out_of_memory_behind c status nine.0 0 (refusal_line None (read_fault name)) (inr (inr (name, is, refl, refl, same)))
+      (past_none (refusal_line None (read_fault name)) _ _ c.taken c.taken' nine.1)
+]
+
+printed_so : (c : Call) (status : ℕ) (program named : Option ℕ) (r told : Refusal) → program ≡ named → r ≡ told → Printed c status program r → Printed c status named told
+printed_so c status program named r told e is h = subst (Printed c status named) is (subst (λ (n : Option ℕ). Printed c status n r) e h)
+
+-- why a script isn't played
+pub stopped : (c : Call) (status : ℕ) (stop : Stop) → c.devices' ≡ c.devices → Blames c.way c.files c.fetch_faults c.fetch_faults' c.name stop
+    → T.Tells stop status (output c.taken c.taken' c.sink_faults c.sink_faults') → HasEnd c status
+stopped c status S.Memory same b t = out_of_memory_alone c status same t.0 t.1
+stopped c status S.Sink same b t = absurd b
+stopped c status (S.Refused r) same b t = elim b [
+  | inl own ↦
+      let told = own.0 in
+      refused_so c status told.0 same told.1 (printed_so c status r.program (program_of_cause told.0) (refusal_of r.kind) (refusal_of_cause told.0) told.2.0 told.2.1 t)
+  | inr read ↦ unread c status read.0 same read.1 read.2 (printed_so c status r.program None (refusal_of r.kind) (read_fault read.0) read.3.0 read.3.1 t)
 ]
 
 -- ---- what programs tell

@@ -1,16 +1,18 @@
 -- Programs that are opened one after another, and why one isn't.
-use Rattle.std.proofs.Common.{◌≡◌, ◌+◌, ◌≤◌, inl, ℕ, List, [], ◌∷◌, ◌++◌, length, map, Option, Result, Ok, Err, refl, sym, ap, ◌∙◌, subst, arith, append_assoc}
+use Rattle.std.proofs.Common.{◌≡◌, ◌+◌, ◌≤◌, inl, inr, ℕ, List, [], ◌∷◌, ◌++◌, length, map, Option, Result, Ok, Err, refl, sym, ap, ◌∙◌, subst, arith, append_assoc}
 use Rattle.std.specs.Prelude.{All, Bool, OnOk}
 use Rattle.std.specs.List.{AllZip}
 use Rattle.std.specs.Result.{IfErr}
 use Rattle.std.proofs.lemmas.List.{length-map, length-append, map-append}
 use Rattle.std.proofs.lemmas.List.Elements.{All-nil, All-cons, All-append, All-head, All-tail}
-use Rattle.vault_port.specs.Counts.{FailsAtMostOnce}
 use Rattle.vault_port.specs.Files.{Files, CannotRead}
+use Rattle.vault_port.proofs.Fetching.{read_once}
 use Rattle.wa_types.specs.View.{module_of}
 use Rattle.wa_types.specs.declared.syntax.Module.{Module as ModuleValue}
 use Rattle.script_model.specs.Script.{ProgramText, ScriptFault, breaks}
 use Rattle.transcript.specs.Printing.{refusal_of}
+use Rattle.transcript.specs.declared.refusals.Refusal.{Refusal as RefusalValue}
+use Rattle.transcript.specs.declared.refusals.RefusalKind.{RefusalKind}
 use Rattle.script_reader.specs.declared.script.ProgramText.{ProgramText as ProgramValue}
 use Rattle.script_reader.specs.Views.{program_of}
 use Rattle.wa_types.specs.Syntax.{Module}
@@ -25,10 +27,11 @@ use Rattle.script_command.specs.declared.modules.Loaded.{Loaded}
 use Rattle.script_command.specs.declared.way.Way.{Way}
 use Rattle.script_command.specs.declared.programs.Planned.{Planned}
 use Rattle.script_command.specs.declared.programs.Programs.{Programs}
-use Rattle.script_command.specs.declared.opening.OpenFault.{OpenFault}
-use Rattle.script_command.specs.declared.opening.OpenFault.TheVariants.{Memory, Read, Script as a_script, Module as a_module, Rule as a_rule}
-use Rattle.script_command.specs.Playing.{IsBadModule, IsModule, IsReached, IsStage, BreaksRule, asks_all}
-use Rattle.script_command.specs.Views.{AreOpened, BlamesLine, BlamesNext, CanStage, CountsFor, IsUnread, OpensNext, part_of, parts_of}
+use Rattle.script_command.specs.declared.stop.Stop.{Stop}
+use Rattle.script_command.specs.declared.stop.Stop.TheVariants.{Memory, Refused, Sink}
+use Rattle.script_command.specs.Playing.{IsBadModule, IsModule, IsReached, IsStage, BreaksRule, asks_all, bad_line, bad_module}
+use Rattle.script_command.specs.SnapshotViews.{refused_module}
+use Rattle.script_command.specs.Views.{AreOpened, BlamesLine, BlamesNext, CanStage, IsUnread, OpensNext, StopsFor, part_of, parts_of}
 
 -- ---- lists in step
 
@@ -131,73 +134,58 @@ module _ (way : Way) (files : Option Files) where
       let a = length-append (map text_in ps.planned.items) (t ∷ rest) in
       omega (arith, n, l, a, few)
 
--- ---- one program more
-
--- no fetch has failed
-pub none_fails : (f f' : ℕ) (fault : OpenFault) → f' ≡ f → CountsFor f f' fault
-none_fails f f' Memory same = inl same
-none_fails f f' (Read read) same = inl same
-none_fails f f' (a_script kind) same = same
-none_fails f f' (a_module n kind) same = same
-none_fails f f' (a_rule line rule) same = same
+-- ---- why one stops
 
 pub stays_any : {T E P : Type 0} (r : Result T E) → P → OnOk r P
 stays_any (Ok x) p = p
 stays_any (Err e) p = tt
 
-pub counts_none : {T : Type 0} (f f' : ℕ) (r : Result T OpenFault) → f' ≡ f → IfErr r (CountsFor f f')
-counts_none f f' (Ok x) same = tt
-counts_none f f' (Err fault) same = none_fails f f' fault same
+module _ (files : Option Files) (f f' : ℕ) where
+  -- what is refused for one thing is for another
+  pub stops_so : (R S : RefusalValue → Type 0) (I J : List ℕ → Type 0) (stop : Stop) → ((r : RefusalValue) → R r → S r) → ((read : List ℕ) → I read → J read) → StopsFor R I files f f' stop
+      → StopsFor S J files f f' stop
+  stops_so R S I J Memory by reads h = h
+  stops_so R S I J Sink by reads h = h
+  stops_so R S I J (Refused r) by reads h = elim h [ inl own ↦ inl (by r own.0, own.1) | inr read ↦ inr (read.0, reads read.0 read.1, read.2, read.3) ]
 
--- one has, where a file couldn't be read
-pub unread_once : (f f' : ℕ) (name : List ℕ) (fault : OpenFault) → IsUnread name fault → FailsAtMostOnce f f' → CountsFor f f' fault
-unread_once f f' name Memory is once = once
-unread_once f f' name (Read read) is once = once
-unread_once f f' name (a_script kind) is once = absurd is
-unread_once f f' name (a_module n kind) is once = absurd is
-unread_once f f' name (a_rule line rule) is once = absurd is
+  -- a file that couldn't be read
+  pub stops_unread : (R : RefusalValue → Type 0) (I : List ℕ → Type 0) (name : List ℕ) (stop : Stop) → I name → CannotRead files name f f' → IsUnread name stop → StopsFor R I files f f' stop
+  stops_unread R I name Memory is why unread = read_once files name f f' why
+  stops_unread R I name Sink is why unread = absurd unread
+  stops_unread R I name (Refused r) is why unread = inr (name, is, why, unread)
 
--- a file that couldn't be read
-pub unread_module : (way : Way) (files : Option Files) (f f' number : ℕ) (t : ProgramText) (fault : OpenFault) → IsUnread t.path fault → CannotRead files t.path f f'
-    → BlamesNext way files f f' number t fault
-unread_module way files f f' number t Memory is why = tt
-unread_module way files f f' number t (Read read) is why = (is, subst (λ (n : List ℕ). CannotRead files n f f') (sym is) why)
-unread_module way files f f' number t (a_script kind) is why = absurd is
-unread_module way files f f' number t (a_module n kind) is why = absurd is
-unread_module way files f f' number t (a_rule line rule) is why = absurd is
+  -- a line that breaks a rule
+  pub line_stops : (way : Way) (number : ℕ) (t : ProgramText) (told : Result SetUp ScriptFault) (stop : Stop) → f' ≡ f → ((line rule : ℕ) → told ≡ Err (breaks line rule) → BreaksRule way files t line rule)
+      → BlamesLine told stop → BlamesNext way files f f' number t stop
+  line_stops way number t told Memory same why b = inl same
+  line_stops way number t told Sink same why b = absurd b
+  line_stops way number t told (Refused r) same why b = inl ((bad_line b.0 b.1, why b.0 b.1 b.2, b.3), same)
 
--- a line that breaks a rule
-pub line_blamed : (way : Way) (files : Option Files) (f f' number : ℕ) (t : ProgramText) (told : Result SetUp ScriptFault) (fault : OpenFault)
-    → BlamesLine told fault → ((line rule : ℕ) → told ≡ Err (breaks line rule) → BreaksRule way files t line rule) → BlamesNext way files f f' number t fault
-line_blamed way files f f' number t told Memory b why = tt
-line_blamed way files f f' number t told (a_rule line rule) b why = why line rule b
-line_blamed way files f f' number t told (Read read) b why = absurd b
-line_blamed way files f f' number t told (a_script kind) b why = absurd b
-line_blamed way files f f' number t told (a_module n kind) b why = absurd b
+  -- a module that is refused
+  pub module_stops : (way : Way) (number found : ℕ) (t : ProgramText) (kind : RefusalKind) (stop : Stop) → found ≡ number → f' ≡ f → IsBadModule way files t (refusal_of kind)
+      → stop ≡ refused_module found kind → BlamesNext way files f f' number t stop
+  module_stops way number found t kind stop e same bad is =
+      subst (BlamesNext way files f f' number t) (sym is) (inl ((bad_module found (refusal_of kind), (e, bad), (refl, refl)), same))
 
--- what is blamed of the next program is, over the files and the counts at first
-pub next_blamed : (way : Way) (files mid : Option Files) (f g h number : ℕ) (t : ProgramText) (fault : OpenFault) → mid ≡ files → g ≡ f
-    → BlamesNext way mid g h number t fault → BlamesNext way files f h number t fault
-next_blamed way files mid f g h number t Memory same still b = tt
-next_blamed way files mid f g h number t (Read read) same still b =
-    (b.0, subst (λ (k : ℕ). CannotRead files read k h) still (subst (λ (all : Option Files). CannotRead all read g h) same b.1))
-next_blamed way files mid f g h number t (a_script kind) same still b = absurd b
-next_blamed way files mid f g h number t (a_module n kind) same still b = (b.0, subst (λ (all : Option Files). IsBadModule way all t (refusal_of kind)) same b.1)
-next_blamed way files mid f g h number t (a_rule line rule) same still b = subst (λ (all : Option Files). BreaksRule way all t line rule) same b
+-- over the files and the counts at first
+pub next_blamed : (way : Way) (files mid : Option Files) (f g h number : ℕ) (t : ProgramText) (stop : Stop) → mid ≡ files → g ≡ f
+    → BlamesNext way mid g h number t stop → BlamesNext way files f h number t stop
+next_blamed way files mid f g h number t stop same still b =
+    subst (λ (all : Option Files). BlamesNext way all f h number t stop) same (subst (λ (k : ℕ). BlamesNext way mid k h number t stop) still b)
 
 -- ---- set-up rules
 
 pub rules_asked : (asked all : Bool) (p : Module) (t : ProgramText) (told : Result SetUp ScriptFault) → asked ≡ all → set_up_rules asked p t ≡ told → set_up_rules all p t ≡ told
 rules_asked asked all p t told e h = sym (ap (λ (b : Bool). set_up_rules b p t) e) ∙ h
 
-on_both : {A B C : Type 0} (r : Result (Unit {0}) OpenFault) → OnOk r A → OnOk r B → (A → B → C) → OnOk r C
+on_both : {A B C : Type 0} (r : Result (Unit {0}) Stop) → OnOk r A → OnOk r B → (A → B → C) → OnOk r C
 on_both (Ok x) a b f = f a b
 on_both (Err e) a b f = tt
 
 pub plans_next : (way : Way) (files : Option Files) (l : Loaded) (text : ProgramValue) (given : SetUpValue) (asked : Bool) → asked ≡ asks_all way → FitsPlan (program_of text)
     → IsListing (module_of l.valid) (listing l.listed) → IsModule way files (program_of text) (module_of l.valid) (listing l.listed)
     → set_up_rules asked (module_of l.valid) (program_of text) ≡ Ok (set_up_of given) → map named_entry_of given.entries.items ≡ map named_entry (program_of text).entries
-    → (old new : Programs) (r : Result (Unit {0}) OpenFault) → OnOk r (new.modules.items ≡ old.modules.items ++ l.valid ∷ [])
+    → (old new : Programs) (r : Result (Unit {0}) Stop) → OnOk r (new.modules.items ≡ old.modules.items ++ l.valid ∷ [])
     → OnOk r (new.planned.items ≡ old.planned.items ++ record { listed = l.listed; text = text; given = given } ∷ []) → OnOk r (OpensNext way files (program_of text) old new)
 plans_next way files l text given asked asks fits told is made entries old new r ms ps =
     on_both r ms ps
@@ -211,6 +199,6 @@ plans_next way files l text given asked asks fits told is made entries old new r
       can = record { fits = fits; listing = told; suits = suits_by_rules asked (module_of l.valid) (program_of text) given made entries };
     })
 
-pub memory_blamed : (told : Result SetUp ScriptFault) (r : Result (Unit {0}) OpenFault) → IfErr r (λ fault. fault ≡ Memory) → IfErr r (λ fault. BlamesLine told fault)
+pub memory_blamed : (told : Result SetUp ScriptFault) (r : Result (Unit {0}) Stop) → IfErr r (λ stop. stop ≡ Memory) → IfErr r (λ stop. BlamesLine told stop)
 memory_blamed told (Ok x) h = tt
-memory_blamed told (Err fault) h = subst (BlamesLine told) (sym h) tt
+memory_blamed told (Err stop) h = subst (BlamesLine told) (sym h) tt

@@ -1,21 +1,23 @@
 -- A script without devices that is opened, or why it isn't.
-use Rattle.std.proofs.Common.{◌≡◌, inl, inr, ℕ, List, map, Option, Some, None, refl, sym, ◌∙◌, subst, arith}
-use Rattle.vault_port.specs.Files.{Files, CannotRead}
+use Rattle.std.proofs.Common.{◌≡◌, inl, inr, ℕ, List, map, Option, Some, None, refl, sym, ◌∙◌, subst}
+use Rattle.vault_port.specs.Files.{Files}
 use Rattle.script_model.specs.Script.{Script, device_line}
 use Rattle.transcript.specs.Printing.{refusal_of}
 use Rattle.script_reader.specs.declared.script.Script.{Script as ScriptValue}
 use Rattle.script_reader.specs.Views.{program_of, script_of}
 use Rattle.script_command.specs.declared.opening.Opened.{Opened}
-use Rattle.script_command.specs.declared.opening.OpenFault.{OpenFault}
-use Rattle.script_command.specs.declared.opening.OpenFault.TheVariants.{Memory, Module, Read, Rule, Script as a_script}
+use Rattle.script_command.specs.declared.stop.Stop.{Stop}
+use Rattle.transcript.specs.declared.refusals.RefusalKind.TheVariants as K
 use Rattle.script_command.specs.declared.way.Way.TheVariants.{Run}
-use Rattle.script_command.specs.Playing.{HasScript}
-use Rattle.script_command.specs.Views as V
+use Rattle.script_command.specs.Playing as P
+use Rattle.script_command.specs.Playing.{HasScript, bad_line, bad_module, bad_script}
 use Rattle.script_command.specs.Views.{AreOpened, BlamesPrograms, BlamesScript}
+use Rattle.script_command.proofs.Openings.{stops_so}
 use Rattle.script_command.proofs.Scripts.{same_detaches, script_blamed}
-use Rattle.script_command.proofs.Statuses.{module_content, never_nine, script_content}
-use Rattle.script_command.specs.PlainScripts.{NamesNone}
-use Rattle.script_command.specs.SnapshotViews.{Blames, IsToldStop, Opens, stop_for}
+use Rattle.script_command.proofs.Statuses.{refused_content, stop_told}
+use Rattle.script_setup.specs.Prepared.{IsOfContent}
+use Rattle.script_command.specs.PlainScripts.{Cause, IsUnplayed, NamesNone, names_device, not_run, refusal_for}
+use Rattle.script_command.specs.SnapshotViews.{Blames, IsToldStop, Opens, refused_for}
 
 -- ---- what is opened
 
@@ -33,32 +35,32 @@ opens_plain files name whole has none mid o same taken are =
 -- ---- why it isn't
 
 module _ (files : Option Files) (name : List ℕ) (f h : ℕ) where
-  pub script_named : (fault : OpenFault) → BlamesScript files f h name fault → Blames files f h name fault
-  script_named Memory b = tt
-  script_named (Read read) b = (inl b.0, subst (λ (n : List ℕ). CannotRead files n f h) (sym b.0) b.1)
-  script_named (a_script kind) b = b
-  script_named (Module number kind) b = absurd b
-  script_named (Rule line rule) b = absurd b
+  pub script_named : (stop : Stop) → BlamesScript files f h name stop → Blames files f h name stop
+  script_named stop b = stops_so files f h _ _ _ _ stop (λ r none. (not_run (bad_script (refusal_of r.kind)), (none.0, none.1, none.2), none.3, refl)) (λ read own. inl own) b
 
-  pub device_named : (whole : Script) (line : ℕ) → HasScript files name whole → device_line whole ≡ Some line → Blames files f h name (Rule line 18)
-  device_named whole line has first = inl (refl, record { whole = whole; of_script = has; first = first })
+  pub device_named : (whole : Script) (line : ℕ) (stop : Stop) → h ≡ f → HasScript files name whole → device_line whole ≡ Some line → stop ≡ refused_for (K.Script line 18) → Blames files f h name stop
+  device_named whole line stop same has first is =
+      subst (Blames files f h name) (sym is) (inl ((names_device line, record { whole = whole; of_script = has; first = first }, refl, refl), same))
 
-  behind_it : NamesNone files name → (fault : OpenFault) → V.Blames Run files f h name fault → Blames files f h name fault
-  behind_it none Memory b = tt
-  behind_it none (Read read) b = (inr (b.0, none), b.1)
-  behind_it none (a_script kind) b = b
-  behind_it none (Module number kind) b = (b, none)
-  behind_it none (Rule line rule) b = inr (b, none)
+  -- what it isn't run for, behind its lines
+  behind_it : NamesNone files name → (cause : P.Cause) → P.IsRefused Run files name cause → IsUnplayed files name (not_run cause)
+  behind_it none (bad_script r) b = b
+  behind_it none (bad_module number r) b = (b, none)
+  behind_it none (bad_line line rule) b = (b, none)
 
-  pub programs_named : (mid : Option Files) (g : ℕ) (whole : Script) (fault : OpenFault) → mid ≡ files → g ≡ f → HasScript files name whole → device_line whole ≡ None
-      → BlamesPrograms Run mid g h whole.programs fault → Blames files f h name fault
-  programs_named mid g whole fault same still has none b =
-      behind_it (record { whole = whole; of_script = has; none = none }) fault (script_blamed Run files name f h mid g whole fault same still has b)
+  pub programs_named : (mid : Option Files) (g : ℕ) (whole : Script) (stop : Stop) → mid ≡ files → g ≡ f → HasScript files name whole → device_line whole ≡ None
+      → BlamesPrograms Run mid g h whole.programs stop → Blames files f h name stop
+  programs_named mid g whole stop same still has none b =
+      let named : NamesNone files name = record { whole = whole; of_script = has; none = none } in
+      stops_so files f h _ _ _ _ stop (λ r told. (not_run told.0, behind_it named told.0 told.1, told.2.0, told.2.1)) (λ read is. inr (is, named))
+      (script_blamed Run files name f h mid g whole stop same still has b)
+
+unplayed_content : (files : Option Files) (name : List ℕ) (cause : Cause) → IsUnplayed files name cause → IsOfContent (refusal_for cause)
+unplayed_content files name (names_device line) b = tt
+unplayed_content files name (not_run (bad_script r)) b = refused_content Run files name (bad_script r) b
+unplayed_content files name (not_run (bad_module number r)) b = refused_content Run files name (bad_module number r) b.0
+unplayed_content files name (not_run (bad_line line rule)) b = tt
 
 -- what is told of it isn't that memory is wanting
-pub told_opening : (files : Option Files) (f h : ℕ) (name : List ℕ) (fault : OpenFault) → Blames files f h name fault → IsToldStop (stop_for fault)
-told_opening files f h name Memory b = tt
-told_opening files f h name (Read read) b = λ e. absurd (omega (arith, e))
-told_opening files f h name (a_script kind) b = never_nine (refusal_of kind) (script_content b.0 (refusal_of kind) b.2)
-told_opening files f h name (Module number kind) b = never_nine (refusal_of kind) (module_content Run files b.0.0 (refusal_of kind) b.0.2)
-told_opening files f h name (Rule line rule) b = λ e. absurd (omega (arith, e))
+pub told_opening : (files : Option Files) (f h : ℕ) (name : List ℕ) (stop : Stop) → Blames files f h name stop → IsToldStop stop
+told_opening files f h name stop b = stop_told _ _ files f h stop (λ r told. subst IsOfContent (sym told.3) (unplayed_content files name told.0 told.1)) b

@@ -11,12 +11,12 @@ use Rattle.wasm_reader.proofs.Held.{own_bytes}
 use Rattle.script_setup.specs.Prepared.{IsPrepared, IsUnprepared}
 use Rattle.transform_command.specs.Running.{RunsAs}
 use Rattle.transform_command.specs.Manners.{plainly}
-use Rattle.transform_command.specs.Sources.{Cause, malformed, float, deep, limit, reserved, invalid, rewritten_locals, long_output, IsRefusedFor}
+use Rattle.transform_command.specs.Sources.{Cause, malformed, float, deep, limit, reserved, invalid, rewritten_locals, long_output, IsRefusedFor, IsUnwritten}
 use Rattle.transform_command.proofs.Outlines.{outline}
 use Rattle.transform_command.proofs.Verdicts as V
 use Rattle.script_command.specs.declared.way.Way.{Way}
 use Rattle.script_command.specs.declared.way.Way.TheVariants.{Host, Run}
-use Rattle.script_command.specs.Playing.{IsBadModule, IsModule, IsUnwritten, settings_for}
+use Rattle.script_command.specs.Playing.{IsBadModule, IsModule, settings_for}
 use Rattle.script_command.proofs.Prepared.{one_prepared, one_unprepared, prepared_passes}
 use Rattle.script_command.proofs.Sources.{one_bad_original}
 
@@ -86,9 +86,9 @@ module _ (files : Files) (t : ProgramText) where
       prepared_passes (bytes_of files t.path) p r (own (λ (bs : List ℕ). IsPrepared bs p) a.0 a.1 a.2) (own (λ (bs : List ℕ). IsUnprepared bs r) b.0 b.1 b.2)
   not_bad Run p l r a b =
       let bad = b.2 in
-      let s = one_settings t bad.0 a.3.0 bad.2 a.3.1 in
-      run_passes a.3.0 (bytes_of files t.path) a.1 p bad.1 (own (λ (bs : List ℕ). RunsAs a.3.0 bs a.1 p) a.0 a.2 a.3.2) bad.4
-      (subst (λ (x : Settings). IsRefusedFor x (bytes_of files t.path) bad.1) s (own (λ (bs : List ℕ). IsRefusedFor bad.0 bs bad.1) b.0 b.1 bad.3))
+      let s = one_settings t bad.0 a.3.0 bad.1 a.3.1 in
+      run_passes a.3.0 (bytes_of files t.path) a.1 p bad.2.0 (own (λ (bs : List ℕ). RunsAs a.3.0 bs a.1 p) a.0 a.2 a.3.2) bad.2.2
+      (subst (λ (x : Settings). IsRefusedFor x (bytes_of files t.path) bad.2.0) s (own (λ (bs : List ℕ). IsRefusedFor bad.0 bs bad.2.0) b.0 b.1 bad.2.1))
 
   -- refusals are one
   pub one_refused : (way : Way) (r q : Refusal) → IsBadModule way (Some files) t r → IsBadModule way (Some files) t q → r ≡ q
@@ -97,8 +97,8 @@ module _ (files : Files) (t : ProgramText) where
   one_refused Run r q a b =
       let x = a.2 in
       let y = b.2 in
-      let s = one_settings t x.0 y.0 x.2 y.2 in
-      x.5
-      ∙ one_bad_original y.0 (bytes_of files t.path) x.1 y.1 x.4 y.4
-      (subst (λ (z : Settings). IsRefusedFor z (bytes_of files t.path) x.1) s (own (λ (bs : List ℕ). IsRefusedFor x.0 bs x.1) a.0 a.1 x.3))
-      (own (λ (bs : List ℕ). IsRefusedFor y.0 bs y.1) b.0 b.1 y.3) ∙ sym y.5
+      let s = one_settings t x.0 y.0 x.1 y.1 in
+      x.2.3
+      ∙ one_bad_original y.0 (bytes_of files t.path) x.2.0 y.2.0 x.2.2 y.2.2
+      (subst (λ (z : Settings). IsRefusedFor z (bytes_of files t.path) x.2.0) s (own (λ (bs : List ℕ). IsRefusedFor x.0 bs x.2.0) a.0 a.1 x.2.1))
+      (own (λ (bs : List ℕ). IsRefusedFor y.0 bs y.2.0) b.0 b.1 y.2.1) ∙ sym y.2.3

@@ -2,7 +2,8 @@
 use Rattle.std.proofs.Common.{◌≡◌, ◌≤◌, inl, inr, ℕ, List, [], ◌∷◌, length, map, Option, Result, Ok, Err, refl, sym, ap, ◌∙◌, subst, arith}
 use Rattle.std.specs.Prelude.{All, IfOk}
 use Rattle.std.proofs.lemmas.List.{length-map}
-use Rattle.vault_port.specs.Files.{Files, CannotRead}
+use Rattle.vault_port.specs.Files.{Files}
+use Rattle.transcript.specs.Printing.{refusal_of}
 use Rattle.wa_model.specs.declared.answers.Detach.{Detach}
 use Rattle.script_model.specs.Script.{ProgramText, Script}
 use Rattle.script_setup.specs.Scripts.{IsScript}
@@ -14,12 +15,11 @@ use Rattle.world_hosting.specs.Worlds.{FitsPlan}
 use Rattle.world_hosting.specs.Laws.{ScriptsFit}
 use Rattle.script_command.specs.declared.way.Way.{Way}
 use Rattle.script_command.specs.declared.opening.Opened.{Opened}
-use Rattle.script_command.specs.declared.opening.OpenFault.{OpenFault}
-use Rattle.script_command.specs.declared.opening.OpenFault.TheVariants.{Memory, Read, Script as a_script, Module as a_module, Rule as a_rule}
+use Rattle.script_command.specs.declared.stop.Stop.{Stop}
 use Rattle.script_command.proofs.Choices.{scripts_choose}
-use Rattle.script_command.specs.Playing.{HasChoice, HasScript, IsReached, Reaches, detach_for}
-use Rattle.script_command.specs.Views.{AreOpened, Blames, BlamesNext, BlamesPrograms, BlamesScript, CanPlay, IsUnread, Opens}
-use Rattle.script_command.proofs.Openings.{next_blamed, text_in, texts_of_parts}
+use Rattle.script_command.specs.Playing.{Cause, HasChoice, HasScript, IsReached, IsRefused, Reaches, bad_line, bad_module, bad_script, detach_for}
+use Rattle.script_command.specs.Views.{AreOpened, Blames, BlamesPrograms, BlamesScript, CanPlay, IsRefusedNext, Opens}
+use Rattle.script_command.proofs.Openings.{stops_so, text_in, texts_of_parts}
 
 -- ---- what is opened
 
@@ -75,35 +75,25 @@ module _ (whole : ScriptValue) (read : (bytes : List ℕ) × IsScript bytes (scr
 -- ---- why it isn't
 
 module _ (way : Way) (files : Option Files) (name : List ℕ) (f h : ℕ) where
-  pub unread_script : (fault : OpenFault) → IsUnread name fault → CannotRead files name f h → BlamesScript files f h name fault
-  unread_script Memory is why = tt
-  unread_script (Read read) is why = (is, why)
-  unread_script (a_script kind) is why = absurd is
-  unread_script (a_module n kind) is why = absurd is
-  unread_script (a_rule line rule) is why = absurd is
+  pub no_script_blamed : (stop : Stop) → BlamesScript files f h name stop → Blames way files f h name stop
+  no_script_blamed stop b = stops_so files f h _ _ _ _ stop (λ r none. (bad_script (refusal_of r.kind), (none.0, none.1, none.2), (none.3, refl))) (λ read own. inl own) b
 
-  pub no_script_blamed : (fault : OpenFault) → BlamesScript files f h name fault → Blames way files f h name fault
-  no_script_blamed Memory b = tt
-  no_script_blamed (Read read) b = (inl b.0, subst (λ (n : List ℕ). CannotRead files n f h) (sym b.0) b.1)
-  no_script_blamed (a_script kind) b = b
-  no_script_blamed (a_module n kind) b = absurd b
-  no_script_blamed (a_rule line rule) b = absurd b
+  module _ (whole : Script) (has : HasScript files name whole) where
+    reaches : (number : ℕ) (t : ProgramText) → IsReached way files whole.programs number t → Reaches way files name number t
+    reaches number t is = record { whole = whole; of_script = has; reached = is }
 
-  reaches : (whole : Script) → HasScript files name whole → (number : ℕ) (t : ProgramText) → IsReached way files whole.programs number t → Reaches way files name number t
-  reaches whole has number t is = record { whole = whole; of_script = has; reached = is }
+    -- what a program that is reached is refused for, the script is
+    refused_there : (number : ℕ) (t : ProgramText) (cause : Cause) → IsReached way files whole.programs number t → IsRefusedNext way files number t cause → IsRefused way files name cause
+    refused_there number t (bad_script r) is h = absurd h
+    refused_there number t (bad_module n r) is h = (t, reaches n t (subst (λ (k : ℕ). IsReached way files whole.programs k t) (sym h.0) is), h.1)
+    refused_there number t (bad_line line rule) is h = (number, t, reaches number t is, h)
 
-  blamed : (whole : Script) (fault : OpenFault) → HasScript files name whole → BlamesPrograms way files f h whole.programs fault → Blames way files f h name fault
-  blamed whole Memory has b = tt
-  blamed whole (Read read) has b = (inr (b.0, b.1, reaches whole has b.0 b.1 b.2, b.3.0), b.3.1)
-  blamed whole (a_script kind) has b = absurd b.3
-  blamed whole (a_module n kind) has b = (b.1, reaches whole has n b.1 (subst (λ (k : ℕ). IsReached way files whole.programs k b.1) (sym b.3.0) b.2), b.3.1)
-  blamed whole (a_rule line rule) has b = (b.0, b.1, reaches whole has b.0 b.1 b.2, b.3)
+    blamed : (stop : Stop) → BlamesPrograms way files f h whole.programs stop → Blames way files f h name stop
+    blamed stop b =
+        stops_so files f h _ _ _ _ stop (λ r told. (told.0, refused_there b.0 b.1 told.0 b.2 told.1, told.2)) (λ read own. inr (b.0, b.1, reaches b.0 b.1 b.2, own)) b.3
 
-  pub script_blamed : (mid : Option Files) (g : ℕ) (whole : Script) (fault : OpenFault) → mid ≡ files → g ≡ f → HasScript files name whole
-      → BlamesPrograms way mid g h whole.programs fault → Blames way files f h name fault
-  script_blamed mid g whole fault same still has b =
-      let here : BlamesPrograms way files g h whole.programs fault = subst (λ (all : Option Files). BlamesPrograms way all g h whole.programs fault) same b in
-      blamed whole fault has (here.0, here.1, here.2, since fault here.0 here.1 here.3)
-    where
-      since : (fault : OpenFault) (number : ℕ) (t : ProgramText) → BlamesNext way files g h number t fault → BlamesNext way files f h number t fault
-      since fault number t b = next_blamed way files files f g h number t fault refl still b
+  pub script_blamed : (mid : Option Files) (g : ℕ) (whole : Script) (stop : Stop) → mid ≡ files → g ≡ f → HasScript files name whole
+      → BlamesPrograms way mid g h whole.programs stop → Blames way files f h name stop
+  script_blamed mid g whole stop same still has b =
+      blamed whole has stop
+      (subst (λ (all : Option Files). BlamesPrograms way all f h whole.programs stop) same (subst (λ (k : ℕ). BlamesPrograms way mid k h whole.programs stop) still b))

@@ -121,3 +121,13 @@ module _ (status f f' s s' p q p' : ℕ) where
       let by : (status ≡ status_of (refusal_of r.kind)) ⊎ (status ≡ 9) = elim t [ inl told ↦ inl told.0 | inr wanting ↦ inr wanting.0 ] in
       let still : FailsAtMostOnce p p' = subst (λ (k : ℕ). FailsAtMostOnce k p') st.6 once in
       line_counts (status_of (refusal_of r.kind)) by (refused_counts status f f s s p p' (refusal_of r.kind) refl refl by still).puts c st.6 once
+
+module _ (status f f' s s' p p' : ℕ) where
+  -- .. before anything was told
+  pub stopped_counts : (old new : Option (List ℕ)) (stop : Stop) → Tells stop status (output old new p p') → CountsBy (status_of_stop stop) f f' s s' p p → FailsAtMostOnce p p'
+      → CountsBy status f f' s s' p p'
+  stopped_counts old new T.Memory t c once = line_counts status f f' s s' p p p' 9 (inl t.0) (λ zero. let nine = t.0 in absurd (omega (arith, nine, zero))) c refl once
+  stopped_counts old new T.Sink t c once = subst (λ (n : ℕ). CountsBy n f f' s s' p p') (sym t.0) (subst (λ (n : ℕ). CountsBy 12 f f' s s' p n) (sym t.2) c)
+  stopped_counts old new (T.Refused r) t c once =
+      let by : (status ≡ status_of (refusal_of r.kind)) ⊎ (status ≡ 9) = elim t [ inl told ↦ inl told.0 | inr wanting ↦ inr wanting.0 ] in
+      line_counts status f f' s s' p p p' (status_of (refusal_of r.kind)) by (refused_counts status f f s s p p' (refusal_of r.kind) refl refl by once).puts c refl once

@@ -16,8 +16,7 @@ use Rattle.script_model.specs.Transcript.{Refusal}
 use Rattle.wasm_reader.specs.declared.read_fault.ReadFault.{ReadFault}
 use Rattle.wasm_reader.specs.declared.read_fault.ReadFault.TheVariants.{Memory, Malformed, Float, Deep, Limit}
 use Rattle.wasm_reader.specs.Answers.{IsAccepted, IsRefused}
-use Rattle.transform_command.specs.Sources.{Cause, malformed, float, deep, limit, reserved, invalid, rewritten_locals, long_output, IsFree, IsRefusedFor, IsValidSource, refusal_for, reserved_name, rewritten_counts}
-use Rattle.script_command.specs.Playing.{IsUnwritten}
+use Rattle.transform_command.specs.Sources.{Cause, malformed, float, deep, limit, reserved, invalid, rewritten_locals, long_output, IsFree, IsRefusedFor, IsUnwritten, IsValidSource, refusal_for, reserved_name, rewritten_counts}
 use Rattle.script_command.proofs.OneRead.{accepted_passes, one_accepted, one_read_fault}
 use Rattle.script_command.proofs.Prepared.{refusal_of_read}
 

@@ -14,7 +14,7 @@ use Rattle.vault_port.specs.declared.whole.PutFault.{PutFault}
 use Rattle.vault_port.specs.declared.whole.PutFault.TheVariants as F
 use Rattle.event_order.specs.Left.{Counted}
 use Rattle.wa_model.specs.declared.answers.Detach.{Detach}
-use Rattle.script_model.specs.Transcript.{Refusal, script}
+use Rattle.script_model.specs.Transcript.{Refusal}
 use Rattle.transcript.specs.Printing.{refusal_of}
 use Rattle.transcript.specs.Refused.{CountsBy, status_of}
 use Rattle.transcript.proofs.Counts.{put_alone, refused_counts, unread_counts, unsaved_counts, wanting_counts}
@@ -23,11 +23,9 @@ use Rattle.snapshot_store.specs.Snapshots.{ProgramRecord, RecordFits, Snapshot, 
 use Rattle.snapshot_store.specs.declared.snapshot.Snapshot.{Snapshot as SnapshotValue}
 use Rattle.snapshot_store.specs.Views.{snapshot_of}
 use Rattle.snapshot_store.proofs.Splits.{one_snapshot}
-use Rattle.script_command.specs.Views.{CanStage, CountsFor, parts_of}
+use Rattle.script_command.specs.Views.{CanStage, parts_of}
 use Rattle.script_command.specs.declared.opening.Opened.{Opened}
-use Rattle.script_command.specs.declared.opening.OpenFault.{OpenFault}
-use Rattle.script_command.specs.declared.opening.OpenFault.TheVariants.{Memory, Module as a_module, Read, Rule, Script as a_script}
-use Rattle.script_command.specs.Playing.{bad_line, bad_module, bad_script, detaches_in}
+use Rattle.script_command.specs.Playing.{detaches_in}
 use Rattle.world_hosting.specs.Continued.{AreResumedAt, Continues, ContinuesPart, IsWhole}
 use Rattle.world_hosting.specs.Saved.{Saves, SavesPart}
 use Rattle.world_hosting.specs.Suiting.{SnapshotSuits}
@@ -42,9 +40,9 @@ use Rattle.script_command.specs.declared.stop.Stop.{Stop}
 use Rattle.script_command.specs.declared.stop.Stop.TheVariants as T
 use Rattle.script_command.specs.SnapshotCalls.{Call, Deed, Output, call, continues, output, saves}
 use Rattle.script_command.specs.PlainScripts as S
-use Rattle.script_command.specs.PlainScripts.{IsRead, IsUnplayed, Play, names_device, not_run}
+use Rattle.script_command.specs.PlainScripts.{IsRead, IsUnplayed, Play}
 use Rattle.script_command.specs.SnapshotTelling.{HoldsNone, HoldsSnapshot, IsCause, IsReadBy, LeavesAll, long, programs_of, unfit, unplayed, unread, unwritten}
-use Rattle.script_command.specs.SnapshotViews.{Blames, Does, Holding, IsPutStop, IsToldStop, NoSnapshot, Opens, StandFor, Stops, status_by, status_of_stop, Writes, refused_for, stop_by, stop_for, thaw_stop}
+use Rattle.script_command.specs.SnapshotViews.{Blames, Does, Holding, IsPutStop, IsToldStop, NoSnapshot, Opens, StandFor, Stops, status_by, status_of_stop, Writes, refused_for, stop_by, thaw_stop}
 
 -- ---- what is printed
 
@@ -81,30 +79,17 @@ module _ (deed : Deed) (name snap : List ℕ) (files files' : Option Files) (f f
   pub nothing_told : Stops deed here (output taken taken p p) T.Memory
   nothing_told = (0, [], inl (leaves, refl), no_part taken, refl)
 
-  opening : (fault : OpenFault) → Blames files f f' name fault → Stops deed here (output taken taken p p) (stop_for fault)
-  opening Memory b = nothing_told
-  opening (Read read) b = (unread read, [], read_cause deed, refl, refl, no_text taken, refl) where
-    read_cause : (deed : Deed) → IsCause deed here (unread read) []
-    read_cause (saves most) = (b.0, b.1, leaves)
-    read_cause continues = (inl b.0, b.1, leaves)
-  opening (a_script kind) b =
-      let cause = not_run (bad_script (refusal_of kind)) in
-      (unplayed cause, [], unplayed_cause deed here cause [] b leaves, refl, refl, no_text taken, refl)
-  opening (a_module number kind) b =
-      let cause = not_run (bad_module number (refusal_of kind)) in
-      (unplayed cause, [], unplayed_cause deed here cause [] b leaves, refl, refl, no_text taken, refl)
-  opening (Rule line rule) b = elim b [
-    | inl own ↦
-        let cause = names_device line in
-        let line_is = ap (λ (n : ℕ). refusal_of (K.Script line n)) own.0 in
-        (unplayed cause, [], unplayed_cause deed here cause [] own.1 leaves, refl, line_is, no_text taken, refl)
-    | inr other ↦
-        let cause = not_run (bad_line line rule) in
-        (unplayed cause, [], unplayed_cause deed here cause [] other leaves, refl, refl, no_text taken, refl)
+  pub opening_stops : (stop : Stop) → Blames files f f' name stop → Stops deed here (output taken taken p p) stop
+  opening_stops T.Memory b = nothing_told
+  opening_stops T.Sink b = absurd b
+  opening_stops (T.Refused r) b = elim b [
+    | inl own ↦ let told = own.0 in (unplayed told.0, [], unplayed_cause deed here told.0 [] told.1 leaves, told.2, told.3, no_text taken, refl)
+    | inr read ↦ (unread read.0, [], read_cause deed read.0 read.1 read.2, read.3.0, read.3.1, no_text taken, refl)
   ]
-
-  pub opening_stops : (fault : OpenFault) (stop : Stop) → stop ≡ stop_for fault → Blames files f f' name fault → Stops deed here (output taken taken p p) stop
-  opening_stops fault stop is b = subst (Stops deed here (output taken taken p p)) (sym is) (opening fault b)
+    where
+      read_cause : (deed : Deed) (read : List ℕ) → IsRead files name read → CannotRead files read f f' → IsCause deed here (unread read) []
+      read_cause (saves most) read is why = (is, why, leaves)
+      read_cause continues read is why = (inl is, why, leaves)
 
 -- ---- what is saved
 
@@ -254,15 +239,6 @@ module _ (f f' s s' p p' : ℕ) where
     | inr failed ↦ unsaved_counts (status_of (refusal_of r.kind)) f f' s s' p p' fetched failed.3 (inl (ap status_of failed.0)) (inl still)
   ]
 
-  pub opening_counts : (fault : OpenFault) (stop : Stop) → stop ≡ stop_for fault → CountsFor f f' fault → s' ≡ s → p' ≡ p → CountsBy (status_of_stop stop) f f' s s' p p'
-  opening_counts fault stop is c saved still = subst (λ (x : Stop). CountsBy (status_of_stop x) f f' s s' p p') (sym is) (by fault c) where
-    by : (fault : OpenFault) → CountsFor f f' fault → CountsBy (status_of_stop (stop_for fault)) f f' s s' p p'
-    by Memory c = wanting_counts 9 f f' s s' p p' c saved refl (inl still)
-    by (Read read) c = unread_counts 10 f f' s s' p p' c saved (inl refl) (inl still)
-    by (a_script kind) c = refused_counts (status_of (refusal_of kind)) f f' s s' p p' (refusal_of kind) c saved (inl refl) (inl still)
-    by (a_module number kind) c = refused_counts (status_of (refusal_of kind)) f f' s s' p p' (refusal_of kind) c saved (inl refl) (inl still)
-    by (Rule line rule) c = refused_counts 8 f f' s s' p p' (script line rule) c saved (inl refl) (inl still)
-
   pub no_snapshot_counts : (files : Option Files) (name : List ℕ) (stop : Stop) → NoSnapshot files f f' name stop → FailsAtMostOnce f f' → s' ≡ s → p' ≡ p → CountsBy (status_of_stop stop) f f' s s' p p'
   no_snapshot_counts files name T.Memory h once saved still = wanting_counts 9 f f' s s' p p' once saved refl (inl still)
   no_snapshot_counts files name T.Sink h once saved still = absurd h
@@ -322,10 +298,6 @@ saved_out r parts out detaches same most ds ds' taken taken' h =
 pub does_kept : (deed : Deed) (name snap : List ℕ) (files files' : Option Files) (f f' s s' : ℕ) (ds ds' : List Counted) (o : Output) (r : Result (Unit {0}) Stop) → files' ≡ files
     → Does deed (call name snap files files f f' s s' ds ds') o r → Does deed (call name snap files files' f f' s s' ds ds') o r
 does_kept deed name snap files files' f f' s s' ds ds' o r same h = subst (λ (x : Option Files). Does deed (call name snap files x f f' s s' ds ds') o r) (sym same) h
-
--- a file couldn't be read
-pub cannot_once : (files : Option Files) (name : List ℕ) (f f' : ℕ) → CannotRead files name f f' → FailsAtMostOnce f f'
-cannot_once files name f f' h = elim h [ inl failed ↦ inr failed | inr missing ↦ inl missing.1 ]
 
 -- ---- programs that stand for their records
 

@@ -1,7 +1,6 @@
 pub mod Answers
 pub mod Completeness
 pub mod Ends
-pub mod Faults
 pub mod HostedOriginals
 pub mod JoinedRuns
 pub mod Laws

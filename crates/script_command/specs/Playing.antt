@@ -12,8 +12,8 @@ use Rattle.script_setup.specs.Prepared.{IsPrepared, IsUnprepared}
 use Rattle.script_setup.specs.Scripts.{IsScript, IsNoScript}
 use Rattle.wasm_reader.specs.Held.{Holds}
 use Rattle.transform_command.specs.Running.{RunsAs}
-use Rattle.transform_command.specs.Sources.{IsRefusedFor, refusal_for}
-use Rattle.transform_command.specs.Sources as S
+use Rattle.transform_command.specs.Manners.{plainly}
+use Rattle.transform_command.specs.SourceRefusals.{IsRefusedUnwritten}
 use Rattle.script_setup.specs.SetUpRules.{set_up_rules}
 use Rattle.world_hosting.specs.Worlds.{Part}
 use Rattle.script_command.specs.declared.way.Way.{Way}
@@ -46,14 +46,9 @@ HasChoice t = (c : Choice) × (choice_said t.list t.ignore_imports ≡ Some c)
 abbrev pub RunsFor : ProgramText → List ℕ → List Bool → Module → Type 0
 RunsFor t bytes listed p = (s : Settings) × (settings_for t ≡ Some s) × RunsAs s bytes listed p
 
--- nothing is written, so that no length is refused
-abbrev pub IsUnwritten : S.Cause → Type 0
-IsUnwritten (S.long_output found) = ⊥
-IsUnwritten _ = Unit {0}
-
 -- the bytes are no original that can be rewritten, for this
 abbrev pub IsBadOriginal : ProgramText → List ℕ → Refusal → Type 0
-IsBadOriginal t bytes r = (s : Settings) × (cause : S.Cause) × (settings_for t ≡ Some s) × IsRefusedFor s bytes cause × IsUnwritten cause × (r ≡ refusal_for cause)
+IsBadOriginal t bytes r = (s : Settings) × (settings_for t ≡ Some s) × IsRefusedUnwritten (plainly s) bytes r
 
 -- the program's module: as its file spells it, and then no list is told; or the original of its file, rewritten
 abbrev pub IsModule : Way → Option Files → ProgramText → Module → Option (List Bool) → Type 0

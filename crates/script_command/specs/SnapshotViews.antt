@@ -7,7 +7,7 @@ use Rattle.vault_port.specs.Taken.{Appends}
 use Rattle.vault_port.specs.Told.{Becomes}
 use Rattle.vault_port.specs.declared.whole.PutFault.{PutFault}
 use Rattle.vault_port.specs.declared.whole.PutFault.TheVariants as F
-use Rattle.script_model.specs.Transcript.{refusal_line, read_fault, snapshot_limit, snapshot_refused, write_fault}
+use Rattle.script_model.specs.Transcript.{Refusal, refusal_line, read_fault, snapshot_limit, snapshot_refused, write_fault}
 use Rattle.transcript.specs.Printing.{refusal_of}
 use Rattle.transcript.specs.Refused.{EndsInMemory, Prints, PrintsMemory, status_of}
 use Rattle.transcript.specs.declared.refusals.RefusalKind.{RefusalKind}
@@ -16,11 +16,9 @@ use Rattle.wasm_reader.specs.Held.{Holds}
 use Rattle.snapshot_store.specs.Snapshots.{ProgramRecord, Snapshot, SnapText, snapshot_bytes}
 use Rattle.pause_host.specs.declared.faults.ThawFault.{ThawFault}
 use Rattle.pause_host.specs.declared.faults.ThawFault.TheVariants as W
-use Rattle.script_command.specs.declared.opening.OpenFault.{OpenFault}
-use Rattle.script_command.specs.declared.opening.OpenFault.TheVariants.{Memory, Module, Read, Rule, Script}
 use Rattle.script_command.specs.declared.opening.Opened.{Opened}
-use Rattle.script_command.specs.Playing.{bad_line, bad_module, bad_script, detaches_in}
-use Rattle.script_command.specs.Views.{parts_of}
+use Rattle.script_command.specs.Playing.{detaches_in}
+use Rattle.script_command.specs.Views.{StopsFor, parts_of}
 use Rattle.world_hosting.specs.Continued.{AreResumedAt}
 use Rattle.world_hosting.specs.Suiting.{RecordSuits, SnapshotSuits}
 use Rattle.world_hosting.specs.Worlds.{Part, PrintsPart, world_programs}
@@ -28,7 +26,8 @@ use Rattle.world_hosting.specs.declared.resuming.Resumed.{Resumed}
 use Rattle.script_command.specs.declared.stop.Stop.{Stop}
 use Rattle.script_command.specs.declared.stop.Stop.TheVariants as T
 use Rattle.script_command.specs.SnapshotCalls.{Call, Deed, Output}
-use Rattle.script_command.specs.PlainScripts.{IsRead, IsUnplayed, NamesDevice, Play, not_run}
+use Rattle.script_command.specs.PlainScripts as S
+use Rattle.script_command.specs.PlainScripts.{IsRead, IsUnplayed, Play, program_for, refusal_for}
 use Rattle.script_command.specs.SnapshotTelling.{Cause, HoldsMore, IsCause, IsDone, most_bytes, program_in, refusal_in}
 use Rattle.script_command.specs.SnapshotEnds.{IsLine, IsWhy, sink_fault}
 
@@ -40,17 +39,10 @@ pub record Opens (files : Option Files) (name : List ℕ) (o : Opened) : Type 0 
   pub parts_are : play.run.parts ≡ parts_of o.programs.modules.items o.programs.planned.items
   pub detaches_are : detaches_in play.run.whole ≡ o.detaches.items
 
--- the rule that a script which is saved or continued names no device
-abbrev pub device_rule : ℕ
-device_rule = 18
-
 -- why it isn't opened
-abbrev pub Blames : Option Files → (faults faults' : ℕ) → (name : List ℕ) → OpenFault → Type 0
-Blames files faults faults' name Memory = Unit {0}
-Blames files faults faults' name (Read read) = IsRead files name read × CannotRead files read faults faults'
-Blames files faults faults' name (Script kind) = IsUnplayed files name (not_run (bad_script (refusal_of kind)))
-Blames files faults faults' name (Module number kind) = IsUnplayed files name (not_run (bad_module number (refusal_of kind)))
-Blames files faults faults' name (Rule line rule) = ((rule ≡ device_rule) × NamesDevice files name line) ⊎ IsUnplayed files name (not_run (bad_line line rule))
+abbrev pub Blames : Option Files → (faults faults' : ℕ) → (name : List ℕ) → Stop → Type 0
+Blames files faults faults' name stop =
+    StopsFor (λ r. (cause : S.Cause) × IsUnplayed files name cause × (r.program ≡ program_for cause) × (refusal_of r.kind ≡ refusal_for cause)) (IsRead files name) files faults faults' stop
 
 -- ---- snapshots
 
@@ -92,12 +84,7 @@ NoSnapshot files faults faults' name (T.Refused r) =
     ⊎ ((refusal_of r.kind ≡ snapshot_limit (suc most_bytes)) × HoldsMore files name × (faults' ≡ faults))
     ⊎ ((refusal_of r.kind ≡ snapshot_refused) × HoldsNoText files name × (faults' ≡ faults)))
 
--- a file of this name couldn't be read, or be written
-abbrev pub IsUnread : (name : List ℕ) → Stop → Type 0
-IsUnread name T.Memory = Unit {0}
-IsUnread name T.Sink = ⊥
-IsUnread name (T.Refused r) = (r.program ≡ None) × (refusal_of r.kind ≡ read_fault name)
-
+-- a file of this name couldn't be written
 abbrev pub IsUnwritten : (name : List ℕ) → Stop → Type 0
 IsUnwritten name T.Memory = Unit {0}
 IsUnwritten name T.Sink = ⊥
@@ -132,13 +119,9 @@ Writes s name files files' faults faults' (Err (T.Refused r)) =
 abbrev pub refused_for : RefusalKind → Stop
 refused_for kind = T.Refused (record { program = None; kind = kind })
 
--- the stop of a script that isn't opened
-abbrev pub stop_for : OpenFault → Stop
-stop_for Memory = T.Memory
-stop_for (Read read) = refused_for (K.ReadFault read)
-stop_for (Script kind) = refused_for kind
-stop_for (Module number kind) = T.Refused (record { program = Some number; kind = kind })
-stop_for (Rule line rule) = refused_for (K.Script line rule)
+-- .. one of the module of a program
+abbrev pub refused_module : (number : ℕ) → RefusalKind → Stop
+refused_module number kind = T.Refused (record { program = Some number; kind = kind })
 
 -- the stop of lines that weren't printed
 abbrev pub stop_by : PutFault → Stop
@@ -184,10 +167,14 @@ abbrev pub Does : Deed → Call → Output → Result (Unit {0}) Stop → Type 0
 Does deed c o (Ok done) = (text : List ℕ) × IsDone deed c text × Becomes o.taken o.taken' (Appends text) × (o.faults' ≡ o.faults)
 Does deed c o (Err stop) = Stops deed c o stop
 
--- What is printed of a stop, and its status: the line of a refusal, or some of it and that memory is wanting.
+-- What is printed of a refusal, and the status: its line, or some of it and that memory is wanting.
+abbrev pub TellsLine : Option ℕ → Refusal → (status : ℕ) → Output → Type 0
+TellsLine program r status o =
+    ((status ≡ status_of r) × Becomes o.taken o.taken' (Prints (refusal_line program r) o.faults o.faults'))
+    ⊎ ((status ≡ 9) × Becomes o.taken o.taken' (PrintsMemory (refusal_line program r) o.faults o.faults'))
+
+-- .. of a stop
 abbrev pub Tells : Stop → (status : ℕ) → Output → Type 0
 Tells T.Memory status o = (status ≡ 9) × Becomes o.taken o.taken' (EndsInMemory o.faults o.faults')
 Tells T.Sink status o = (status ≡ 12) × (o.taken' ≡ o.taken) × (o.faults' ≡ o.faults)
-Tells (T.Refused r) status o =
-    ((status ≡ status_of (refusal_of r.kind)) × Becomes o.taken o.taken' (Prints (refusal_line r.program (refusal_of r.kind)) o.faults o.faults'))
-    ⊎ ((status ≡ 9) × Becomes o.taken o.taken' (PrintsMemory (refusal_line r.program (refusal_of r.kind)) o.faults o.faults'))
+Tells (T.Refused r) status o = TellsLine r.program (refusal_of r.kind) status o

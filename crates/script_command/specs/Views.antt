@@ -1,21 +1,18 @@
 -- What is answered, as plain data.
-use Rattle.std.specs.Prelude.{◌≡◌, ◌≤◌, ◌++◌, ℕ, List, [], ◌∷◌, length, Option, Result, Err}
+use Rattle.std.specs.Prelude.{◌≡◌, ◌⊎◌, ◌≤◌, ◌++◌, ℕ, List, [], ◌∷◌, length, Option, None, Result, Err}
 use Rattle.std.specs.List.{AllZip}
 use Rattle.vault_port.specs.Counts.{FailsAtMostOnce}
 use Rattle.vault_port.specs.Files.{Files, CannotRead}
 use Rattle.wa_types.specs.View.{module_of}
 use Rattle.wa_types.specs.declared.syntax.Module.{Module as ModuleValue}
 use Rattle.script_model.specs.Script.{ProgramText, ScriptFault, breaks}
+use Rattle.script_model.specs.Transcript.{read_fault}
 use Rattle.transcript.specs.Printing.{refusal_of}
-use Rattle.transcript.specs.declared.refusals.RefusalKind.{RefusalKind}
+use Rattle.transcript.specs.declared.refusals.Refusal.{Refusal as RefusalValue}
 use Rattle.script_setup.specs.Scripts.{IsNoScript}
 use Rattle.wasm_reader.specs.Held.{Holds}
-use Rattle.script_setup.specs.declared.file_fault.FileFault.{FileFault}
-use Rattle.script_setup.specs.declared.file_fault.FileFault.TheVariants as F
-use Rattle.transform_command.specs.SourceRefusals.{cause_of}
-use Rattle.transform_command.specs.Sources.{refusal_for}
-use Rattle.transform_command.specs.declared.source.SourceFault.{SourceFault}
-use Rattle.transform_command.specs.declared.source.SourceFault.TheVariants as U
+use Rattle.module_files.specs.declared.fault.FileFault.{FileFault}
+use Rattle.module_files.specs.declared.fault.FileFault.TheVariants as F
 use Rattle.script_reader.specs.Views.{program_of}
 use Rattle.script_setup.specs.SetUpRules.{SetUp}
 use Rattle.script_setup.specs.Views.{set_up_of}
@@ -26,20 +23,15 @@ use Rattle.script_command.specs.declared.modules.Loaded.{Loaded}
 use Rattle.script_command.specs.declared.programs.Planned.{Planned}
 use Rattle.script_command.specs.declared.programs.Programs.{Programs}
 use Rattle.script_command.specs.declared.opening.Opened.{Opened}
-use Rattle.script_command.specs.declared.opening.OpenFault.{OpenFault}
-use Rattle.script_command.specs.declared.opening.OpenFault.TheVariants.{Memory, Read, Script, Module, Rule}
-use Rattle.script_command.specs.Playing.{AreStages, BreaksRule, IsBadModule, IsModule, IsReached, IsRead, IsRefused, IsStage, Play, bad_line, bad_module, bad_script, detaches_in}
+use Rattle.script_command.specs.declared.stop.Stop.{Stop}
+use Rattle.script_command.specs.declared.stop.Stop.TheVariants.{Memory, Refused, Sink}
+use Rattle.script_command.specs.Ends.{program_of_cause}
+use Rattle.script_command.specs.Playing.{AreStages, BreaksRule, Cause, IsBadModule, IsModule, IsReached, IsRead, IsRefused, IsStage, Play, bad_line, bad_module, bad_script, detaches_in, refusal_of_cause}
 
 -- a module of a program of this text, which is told of each function import whether it is listed where it is told at all
 pub record Loads (way : Way) (files : Option Files) (t : ProgramText) (l : Loaded) : Type 0 where
   pub module_is : IsModule way files t (module_of l.valid) (listing l.listed)
   pub listing : IsListing (module_of l.valid) (listing l.listed)
-
--- the fault of an original that wasn't rewritten
-abbrev pub IsOfSource : SourceFault → FileFault → Type 0
-IsOfSource U.Memory fault = fault ≡ F.Memory
-IsOfSource U.Read fault = fault ≡ F.Read
-IsOfSource (U.Refused refusal) fault = (kind : RefusalKind) × (fault ≡ F.Refused kind) × (refusal_of kind ≡ refusal_for (cause_of refusal))
 
 -- a refusal, for which a program's module is refused
 abbrev pub IsBadModuleFor : Way → Option Files → ProgramText → FileFault → Type 0
@@ -93,49 +85,57 @@ pub record CanPlay (o : Opened) : Type 0 where
   pub few : length o.programs.planned.items ≤ 16
   pub each : AllZip CanStage o.programs.modules.items o.programs.planned.items
 
--- ---- faults
+-- ---- why nothing is opened
 
--- a line breaks a set-up rule, or memory is wanting
-abbrev pub BlamesLine : Result SetUp ScriptFault → OpenFault → Type 0
-BlamesLine told Memory = Unit {0}
-BlamesLine told (Rule line rule) = told ≡ Err (breaks line rule)
-BlamesLine told _ = ⊥
-
--- why a program of this number and text isn't set up
-abbrev pub BlamesNext : Way → Option Files → (faults faults' number : ℕ) → ProgramText → OpenFault → Type 0
-BlamesNext way files faults faults' number t Memory = Unit {0}
-BlamesNext way files faults faults' number t (Read name) = (name ≡ t.path) × CannotRead files name faults faults'
-BlamesNext way files faults faults' number t (Module n kind) = (n ≡ number) × IsBadModule way files t (refusal_of kind)
-BlamesNext way files faults faults' number t (Rule line rule) = BreaksRule way files t line rule
-BlamesNext way files faults faults' number t (Script kind) = ⊥
-
--- .. why the first of these that isn't can't be
-abbrev pub BlamesPrograms : Way → Option Files → (faults faults' : ℕ) → List ProgramText → OpenFault → Type 0
-BlamesPrograms way files faults faults' texts fault = (number : ℕ) × (t : ProgramText) × IsReached way files texts number t × BlamesNext way files faults faults' number t fault
-
--- why there is no script in the file
-abbrev pub BlamesScript : Option Files → (faults faults' : ℕ) → (name : List ℕ) → OpenFault → Type 0
-BlamesScript files faults faults' name Memory = Unit {0}
-BlamesScript files faults faults' name (Read read) = (read ≡ name) × CannotRead files name faults faults'
-BlamesScript files faults faults' name (Script kind) = (bytes : List ℕ) × Holds files name bytes × IsNoScript bytes (refusal_of kind)
-BlamesScript files faults faults' name _ = ⊥
-
--- why a script isn't opened
-abbrev pub Blames : Way → Option Files → (faults faults' : ℕ) → (name : List ℕ) → OpenFault → Type 0
-Blames way files faults faults' name Memory = Unit {0}
-Blames way files faults faults' name (Read read) = IsRead way files name read × CannotRead files read faults faults'
-Blames way files faults faults' name (Script kind) = IsRefused way files name (bad_script (refusal_of kind))
-Blames way files faults faults' name (Module number kind) = IsRefused way files name (bad_module number (refusal_of kind))
-Blames way files faults faults' name (Rule line rule) = IsRefused way files name (bad_line line rule)
-
--- what has failed of the fetches: one at most where a file couldn't be read, also where memory was wanting behind that, and else none
-abbrev pub CountsFor : (faults faults' : ℕ) → OpenFault → Type 0
-CountsFor faults faults' Memory = FailsAtMostOnce faults faults'
-CountsFor faults faults' (Read name) = FailsAtMostOnce faults faults'
-CountsFor faults faults' _ = faults' ≡ faults
+-- the refusal tells that this file couldn't be read
+abbrev pub TellsUnread : (name : List ℕ) → RefusalValue → Type 0
+TellsUnread name r = (r.program ≡ None) × (refusal_of r.kind ≡ read_fault name)
 
 -- a file of this name couldn't be read
-abbrev pub IsUnread : (name : List ℕ) → OpenFault → Type 0
+abbrev pub IsUnread : (name : List ℕ) → Stop → Type 0
 IsUnread name Memory = Unit {0}
-IsUnread name (Read read) = read ≡ name
-IsUnread name _ = ⊥
+IsUnread name Sink = ⊥
+IsUnread name (Refused r) = TellsUnread name r
+
+-- Memory is wanting; what is refused has this; or a file that is read couldn't be. A fetch has failed in the last case alone, also where memory
+-- was wanting behind that, and then once.
+abbrev pub StopsFor : (RefusalValue → Type 0) → (IsTried : List ℕ → Type 0) → Option Files → (faults faults' : ℕ) → Stop → Type 0
+StopsFor R IsTried files faults faults' Memory = FailsAtMostOnce faults faults'
+StopsFor R IsTried files faults faults' Sink = ⊥
+StopsFor R IsTried files faults faults' (Refused r) =
+    (R r × (faults' ≡ faults)) ⊎ ((read : List ℕ) × IsTried read × CannotRead files read faults faults' × TellsUnread read r)
+
+-- the refusal tells a cause, and the program that it names
+abbrev pub TellsCause : Cause → RefusalValue → Type 0
+TellsCause cause r = (r.program ≡ program_of_cause cause) × (refusal_of r.kind ≡ refusal_of_cause cause)
+
+-- a line breaks a set-up rule, or memory is wanting
+abbrev pub BlamesLine : Result SetUp ScriptFault → Stop → Type 0
+BlamesLine told Memory = Unit {0}
+BlamesLine told Sink = ⊥
+BlamesLine told (Refused r) = (line : ℕ) × (rule : ℕ) × (told ≡ Err (breaks line rule)) × TellsCause (bad_line line rule) r
+
+-- a program of this number and text is refused for this
+abbrev pub IsRefusedNext : Way → Option Files → (number : ℕ) → ProgramText → Cause → Type 0
+IsRefusedNext way files number t (bad_script r) = ⊥
+IsRefusedNext way files number t (bad_module n r) = (n ≡ number) × IsBadModule way files t r
+IsRefusedNext way files number t (bad_line line rule) = BreaksRule way files t line rule
+
+-- why it isn't set up
+abbrev pub BlamesNext : Way → Option Files → (faults faults' number : ℕ) → ProgramText → Stop → Type 0
+BlamesNext way files faults faults' number t stop =
+    StopsFor (λ r. (cause : Cause) × IsRefusedNext way files number t cause × TellsCause cause r) (λ read. read ≡ t.path) files faults faults' stop
+
+-- .. why the first of these that isn't can't be
+abbrev pub BlamesPrograms : Way → Option Files → (faults faults' : ℕ) → List ProgramText → Stop → Type 0
+BlamesPrograms way files faults faults' texts stop = (number : ℕ) × (t : ProgramText) × IsReached way files texts number t × BlamesNext way files faults faults' number t stop
+
+-- why there is no script in the file
+abbrev pub BlamesScript : Option Files → (faults faults' : ℕ) → (name : List ℕ) → Stop → Type 0
+BlamesScript files faults faults' name stop =
+    StopsFor (λ r. (bytes : List ℕ) × Holds files name bytes × IsNoScript bytes (refusal_of r.kind) × (r.program ≡ None)) (λ read. read ≡ name) files faults faults' stop
+
+-- why a script isn't opened
+abbrev pub Blames : Way → Option Files → (faults faults' : ℕ) → (name : List ℕ) → Stop → Type 0
+Blames way files faults faults' name stop =
+    StopsFor (λ r. (cause : Cause) × IsRefused way files name cause × TellsCause cause r) (IsRead way files name) files faults faults' stop

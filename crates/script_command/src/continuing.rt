@@ -24,7 +24,7 @@ use crate::opening::Opened;
 use crate::plain_scripts::open_plain;
 use crate::programs::Programs;
 use crate::resuming::resume_all;
-use crate::stop::{Stop, stop_by, stop_for, tell_stop, thaw_stop};
+use crate::stop::{Stop, stop_by, tell_stop, thaw_stop};
 use device_port::{Device, Devices};
 use snapshot_store::Snapshot;
 use std::alloc::Global;
@@ -91,7 +91,7 @@ fn go_on<V: Vault, S: Sink>(
 {
     match open_plain(alloc, vault, script) {
         Ok(opened) => continue_opened(alloc, vault, out, devices, opened, snap),
-        Err(fault) => Err(stop_for(fault)),
+        Err(stop) => Err(stop),
     }
 }
 

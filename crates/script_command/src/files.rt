@@ -5,9 +5,9 @@ ghost use Rattle.std.specs.Result.{IfErr};
 ghost use Rattle.vault_port.specs.Counts.{FailsAtMostOnce};
 ghost use Rattle.snapshot_store.specs.Parts.{CountsFit};
 ghost use Rattle.snapshot_store.specs.Views.{record_of, snapshot_of};
-ghost use Rattle.script_command.specs.SnapshotViews.{Holding, IsText, IsUnread, IsUnwritten, NoSnapshot, NoText, Writes};
+ghost use Rattle.script_command.specs.SnapshotViews.{Holding, IsText, IsUnwritten, NoSnapshot, NoText, Writes};
 
-use crate::stop::{Stop, refused};
+use crate::stop::{Stop, refused, unread};
 use snapshot_store::{SnapFault, Snapshot, length, read, write};
 use std::alloc::Global;
 use transcript::RefusalKind;
@@ -57,16 +57,6 @@ fn snapshot_in(alloc: Global, bytes: &[u8]) -> Result<Snapshot, Stop>
         Ok(snapshot) => Ok(snapshot),
         Err(SnapFault::Memory) => Err(Stop::Memory),
         Err(SnapFault::Refused) => Err(refused(RefusalKind::SnapshotRefused)),
-    }
-}
-
-// The stop of a file that couldn't be read.
-fn unread(alloc: Global, name: &str) -> Stop
-    ensures { IsUnread name.now result }
-{
-    match Name::new(alloc, name) {
-        Ok(name) => refused(RefusalKind::ReadFault { name }),
-        Err(_) => Stop::Memory,
     }
 }
 

@@ -28,7 +28,7 @@
 //!
 //! - `way`, `modules`, `programs`, `opening`: whether modules are rewritten, a program's module, the programs in order, and the script.
 //! - `staging`, `playing`: programs over their modules, and the commands `host` and `run`.
-//! - `plain_scripts`, `stop`: scripts without devices, opened; and why a call on a snapshot stops before it is done.
+//! - `plain_scripts`, `stop`: scripts without devices, opened; and why a call stops before it is done.
 //! - `saving`, `files`: the first events, and the snapshot's file.
 //! - `resuming`, `continuing`: programs that stand for their records, and what they tell from there.
 //! - `originals_run`, `laws`, `joining`, `verdicts`: the laws on `run`, on `host`, on what is saved and gone on with, and on refusals.

@@ -12,14 +12,15 @@ ghost use Rattle.script_model.specs.Command.{choice_said, listed_choice};
 ghost use Rattle.script_reader.specs.Views.{program_of};
 ghost use Rattle.script_command.specs.declared.way.Way.TheVariants.{Host, Run};
 ghost use Rattle.script_command.specs.Playing.{HasChoice, policy_for, settings_for};
-ghost use Rattle.script_command.specs.Views.{IsBadModuleFor, IsOfSource, Loads};
+ghost use Rattle.script_command.specs.Views.{IsBadModuleFor, Loads};
 
 use crate::way::Way;
 use call_graph::{Choice, ImportList, ListFault, Policy, Settings};
+use module_files::FileFault;
 use script_reader::ProgramText;
-use script_setup::{FileFault, fetch_prepared};
+use script_setup::fetch_prepared;
 use std::alloc::{AllocError, Global};
-use transform_command::{SourceFault, refusal_kind, rewritten};
+use transform_command::rewritten;
 use vault_port::Vault;
 use wa_types::Name;
 use wasm_validate::Valid;
@@ -100,18 +101,7 @@ fn fetch_rewritten<V: Vault>(
             valid: runnable.module,
             listed: Some(runnable.listed),
         }),
-        Err(fault) => Err(source_fault(fault)),
-    }
-}
-
-// Why a program's original is refused.
-fn source_fault(fault: SourceFault) -> FileFault
-    ensures { IsOfSource fault result }
-{
-    match fault {
-        SourceFault::Memory => FileFault::Memory,
-        SourceFault::Read => FileFault::Read,
-        SourceFault::Refused(refusal) => FileFault::Refused(refusal_kind(refusal)),
+        Err(fault) => Err(fault),
     }
 }
 

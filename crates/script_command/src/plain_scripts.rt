@@ -2,13 +2,15 @@
 
 ghost use Rattle.std.specs.Prelude.{◌≡◌, ◌≤◌, IfOk, OnOk};
 ghost use Rattle.std.specs.Result.{IfErr};
-ghost use Rattle.script_command.specs.Views.{CanPlay, CountsFor};
+ghost use Rattle.script_command.specs.Views.{CanPlay};
 ghost use Rattle.script_command.specs.SnapshotViews.{Blames, Opens};
 
-use crate::opening::{OpenFault, Opened, open_whole, read_whole};
+use crate::opening::{Opened, open_whole, read_whole};
+use crate::stop::{Stop, refused};
 use crate::way::Way;
 use script_reader::device_line;
 use std::alloc::Global;
+use transcript::RefusalKind;
 use vault_port::Vault;
 
 /// The rule that a script which is saved or continued has no `device` line.
@@ -20,25 +22,24 @@ pub(crate) fn open_plain<V: Vault>(
     alloc: Global,
     vault: &mut V,
     script: &str,
-) -> Result<Opened, OpenFault>
+) -> Result<Opened, Stop>
     ensures opened { IfOk result (λ o. Opens (V.files vault.old) script.now o) }
     ensures plays { IfOk result CanPlay }
-    ensures refused { IfErr result (λ fault. Blames (V.files vault.old) (V.fetch_faults vault.old) (V.fetch_faults vault.new) script.now fault) }
+    ensures refused { IfErr result (λ stop. Blames (V.files vault.old) (V.fetch_faults vault.old) (V.fetch_faults vault.new) script.now stop) }
     ensures kept { V.files vault.new ≡ V.files vault.old }
     ensures stays { OnOk result (V.fetch_faults vault.new ≡ V.fetch_faults vault.old) }
-    ensures counts { IfErr result (CountsFor (V.fetch_faults vault.old) (V.fetch_faults vault.new)) }
     ensures faults { V.fetch_faults vault.old ≤ V.fetch_faults vault.new }
     ensures saves { V.save_faults vault.new ≡ V.save_faults vault.old }
 {
     let whole = match read_whole(alloc, vault, script) {
         Ok(whole) => whole,
-        Err(fault) => return Err(fault),
+        Err(stop) => return Err(stop),
     };
     match device_line(&whole) {
-        Some(line) => Err(OpenFault::Rule {
+        Some(line) => Err(refused(RefusalKind::Script {
             line,
             rule: DEVICE_RULE,
-        }),
+        })),
         None => open_whole(alloc, vault, Way::Run, whole),
     }
 }

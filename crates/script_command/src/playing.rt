@@ -4,25 +4,24 @@ ghost use Rattle.std.specs.Prelude.{◌≡◌, ◌≤◌, ℕ, List, Option, len
 ghost use Rattle.vault_port.specs.Counts.{FailsAtMostOnce};
 ghost use Rattle.vault_port.specs.Files.{Files};
 ghost use Rattle.transcript.specs.Refused.{CountsBy};
-ghost use Rattle.event_order.specs.Left.{Counted};
 ghost use Rattle.host_laws.specs.Supplies.{IsLent};
 ghost use Rattle.script_command.specs.Playing.{Play, detaches_in};
-ghost use Rattle.script_command.specs.Views.{Blames, CanPlay, CountsFor, Opens};
+ghost use Rattle.script_command.specs.Views.{CanPlay, Opens};
 ghost use Rattle.script_command.specs.declared.way.Way.{Way as WayValue};
 ghost use Rattle.world_hosting.specs.Counts.{counted};
 ghost use Rattle.world_hosting.specs.Views.{AreStaged};
 ghost use Rattle.world_hosting.specs.Worlds.{Part};
 ghost use Rattle.script_command.specs.Answers.{HasOneEnd};
 ghost use Rattle.script_command.specs.Ends.{HasEnd, IsStatus, call};
-ghost use Rattle.script_command.specs.Faults.{IsToldFault};
 
-use crate::opening::{OpenFault, Opened, open_script};
+use crate::opening::{Opened, open_script};
 use crate::programs::Programs;
 use crate::staging::stage_all;
+use crate::stop::tell_stop;
 use crate::way::Way;
 use device_port::{Device, Devices};
 use std::alloc::Global;
-use transcript::{RefusalKind, out_of_memory, refuse, refuse_program};
+use transcript::out_of_memory;
 use vault_port::{PutFault, Sink, Vault};
 use wa_model::Detach;
 use world_hosting::{Staged, host_programs};
@@ -58,7 +57,7 @@ pub fn play_script<V: Vault, S: Sink>(
 {
     match open_script(alloc, vault, way, script) {
         Ok(opened) => play(alloc, out, devices, opened),
-        Err(fault) => refuse_script(alloc, out, fault),
+        Err(stop) => tell_stop(alloc, out, stop),
     }
 }
 
@@ -108,23 +107,5 @@ fn tell<S: Sink>(
         Ok(()) => 0,
         Err(PutFault::Fault) => SINK_FAULT,
         Err(PutFault::Memory) => out_of_memory(out),
-    }
-}
-
-// Prints why a script isn't played.
-fn refuse_script<S: Sink>(alloc: Global, out: &mut S, fault: OpenFault) -> u8
-    requires { IsToldFault fault }
-    ensures end { (way : WayValue) (files : Option Files) (name : List ℕ) (fetched fetched' : ℕ) (ds : List Counted) → Blames way files fetched fetched' name fault
-        → HasEnd (call way name files fetched fetched' (S.faults out.old) (S.faults out.new) (S.taken out.old) (S.taken out.new) ds ds) result }
-    ensures counts { (fetched fetched' saved saved' : ℕ) → saved' ≡ saved → CountsFor fetched fetched' fault
-        → CountsBy result fetched fetched' saved saved' (S.faults out.old) (S.faults out.new) }
-    ensures faults { S.faults out.old ≤ S.faults out.new }
-{
-    match fault {
-        OpenFault::Memory => out_of_memory(out),
-        OpenFault::Read { name } => refuse(alloc, out, RefusalKind::ReadFault { name }),
-        OpenFault::Script(kind) => refuse(alloc, out, kind),
-        OpenFault::Module { number, kind } => refuse_program(alloc, out, Some(number), kind),
-        OpenFault::Rule { line, rule } => refuse(alloc, out, RefusalKind::Script { line, rule }),
     }
 }

@@ -9,16 +9,17 @@ ghost use Rattle.script_setup.specs.SetUpRules.{set_up_rules};
 ghost use Rattle.world_hosting.specs.Worlds.{FitsPlan, IsListing};
 ghost use Rattle.world_hosting.specs.Views.{listing};
 ghost use Rattle.script_command.specs.Playing.{HasChoice, IsModule, asks_all};
-ghost use Rattle.script_command.specs.Views.{AreOpened, BlamesLine, BlamesNext, BlamesPrograms, CountsFor, IsUnread, OpensNext};
+ghost use Rattle.script_command.specs.Views.{AreOpened, BlamesLine, BlamesNext, BlamesPrograms, OpensNext};
 
 use crate::modules::{Loaded, fetch_module};
-use crate::opening::OpenFault;
+use crate::stop::{Stop, refused, refused_module, unread};
 use crate::way::Way;
+use module_files::FileFault;
 use script_reader::ProgramText;
-use script_setup::{FileFault, RuleFault, SetUp, set_up_program};
+use script_setup::{RuleFault, SetUp, set_up_program};
 use std::alloc::{AllocError, Global};
+use transcript::RefusalKind;
 use vault_port::Vault;
-use wa_types::Name;
 use wasm_validate::Valid;
 
 /// What is planned over a program's module: which of its function imports are listed, where that is told, the program's text, and
@@ -43,15 +44,14 @@ pub(crate) fn open_programs<V: Vault>(
     vault: &mut V,
     way: Way,
     texts: Vec<ProgramText>,
-) -> Result<Programs, OpenFault>
+) -> Result<Programs, Stop>
     requires few { length texts.items ≤ 16 }
     requires fits { All FitsPlan (map program_of texts.items) }
     requires choices { All HasChoice (map program_of texts.items) }
     ensures opened { IfOk result (λ ps. AreOpened way (V.files vault.old) (map program_of texts.items) ps) }
-    ensures refused { IfErr result (λ fault. BlamesPrograms way (V.files vault.old) (V.fetch_faults vault.old) (V.fetch_faults vault.new) (map program_of texts.items) fault) }
+    ensures refused { IfErr result (λ stop. BlamesPrograms way (V.files vault.old) (V.fetch_faults vault.old) (V.fetch_faults vault.new) (map program_of texts.items) stop) }
     ensures kept { V.files vault.new ≡ V.files vault.old }
     ensures stays { OnOk result (V.fetch_faults vault.new ≡ V.fetch_faults vault.old) }
-    ensures counts { IfErr result (CountsFor (V.fetch_faults vault.old) (V.fetch_faults vault.new)) }
     ensures faults { V.fetch_faults vault.old ≤ V.fetch_faults vault.new }
     ensures saves { V.save_faults vault.new ≡ V.save_faults vault.old }
 {
@@ -60,8 +60,8 @@ pub(crate) fn open_programs<V: Vault>(
         planned: Vec::new(alloc),
     };
     for text in texts {
-        if let Err(fault) = open_next(alloc, vault, way, &mut programs, text) {
-            return Err(fault);
+        if let Err(stop) = open_next(alloc, vault, way, &mut programs, text) {
+            return Err(stop);
         }
     }
     Ok(programs)
@@ -74,24 +74,23 @@ fn open_next<V: Vault>(
     way: Way,
     programs: &mut Programs,
     text: ProgramText,
-) -> Result<(), OpenFault>
+) -> Result<(), Stop>
     requires few { length programs.old.planned.items < 16 }
     requires fits { FitsPlan (program_of text) }
     requires choice { HasChoice (program_of text) }
     ensures opened { OnOk result (OpensNext way (V.files vault.old) (program_of text) programs.old programs.new) }
-    ensures refused { IfErr result (λ fault. BlamesNext way (V.files vault.old) (V.fetch_faults vault.old) (V.fetch_faults vault.new) (length programs.old.planned.items) (program_of text) fault) }
+    ensures refused { IfErr result (λ stop. BlamesNext way (V.files vault.old) (V.fetch_faults vault.old) (V.fetch_faults vault.new) (length programs.old.planned.items) (program_of text) stop) }
     ensures kept { V.files vault.new ≡ V.files vault.old }
     ensures stays { OnOk result (V.fetch_faults vault.new ≡ V.fetch_faults vault.old) }
-    ensures counts { IfErr result (CountsFor (V.fetch_faults vault.old) (V.fetch_faults vault.new)) }
     ensures faults { V.fetch_faults vault.old ≤ V.fetch_faults vault.new }
     ensures saves { V.save_faults vault.new ≡ V.save_faults vault.old }
 {
     let number = programs.planned.len() as u32;
     match fetch_module(alloc, vault, way, &text) {
         Ok(loaded) => plan_program(alloc, way, programs, loaded, text),
-        Err(FileFault::Memory) => Err(OpenFault::Memory),
+        Err(FileFault::Memory) => Err(Stop::Memory),
         Err(FileFault::Read) => Err(unread(alloc, text.path.as_str())),
-        Err(FileFault::Refused(kind)) => Err(OpenFault::Module { number, kind }),
+        Err(FileFault::Refused(kind)) => Err(refused_module(number, kind)),
     }
 }
 
@@ -102,17 +101,17 @@ fn plan_program(
     programs: &mut Programs,
     loaded: Loaded,
     text: ProgramText,
-) -> Result<(), OpenFault>
+) -> Result<(), Stop>
     requires fits { FitsPlan (program_of text) }
     requires listing { IsListing (module_of loaded.valid) (listing loaded.listed) }
     ensures opened { (files : Option Files) → IsModule way files (program_of text) (module_of loaded.valid) (listing loaded.listed)
         → OnOk result (OpensNext way files (program_of text) programs.old programs.new) }
-    ensures refused { IfErr result (λ fault. BlamesLine (set_up_rules (asks_all way) (module_of loaded.valid) (program_of text)) fault) }
+    ensures refused { IfErr result (λ stop. BlamesLine (set_up_rules (asks_all way) (module_of loaded.valid) (program_of text)) stop) }
 {
     match set_up_program(alloc, &loaded.valid, &text, way.asks_all()) {
         Ok(given) => put_program(programs, loaded, text, given),
-        Err(RuleFault::Memory) => Err(OpenFault::Memory),
-        Err(RuleFault::Rule { line, rule }) => Err(OpenFault::Rule { line, rule }),
+        Err(RuleFault::Memory) => Err(Stop::Memory),
+        Err(RuleFault::Rule { line, rule }) => Err(refused(RefusalKind::Script { line, rule })),
     }
 }
 
@@ -122,10 +121,10 @@ fn put_program(
     loaded: Loaded,
     text: ProgramText,
     given: SetUp,
-) -> Result<(), OpenFault>
+) -> Result<(), Stop>
     ensures modules { OnOk result (programs.new.modules.items ≡ programs.old.modules.items ++ loaded.valid ∷ []) }
     ensures planned { OnOk result (programs.new.planned.items ≡ programs.old.planned.items ++ record { listed = loaded.listed; text = text; given = given } ∷ []) }
-    ensures memory { IfErr result (λ fault. fault ≡ OpenFault.Memory) }
+    ensures memory { IfErr result (λ stop. stop ≡ Stop.Memory) }
 {
     let Loaded { valid, listed } = loaded;
     put(&mut programs.modules, valid)?;
@@ -146,14 +145,4 @@ fn put<T: Drop>(items: &mut Vec<T>, item: T) -> Result<(), AllocError>
 {
     items.push(item)?;
     Ok(())
-}
-
-/// The fault of a file that couldn't be read.
-pub(crate) fn unread(alloc: Global, name: &str) -> OpenFault
-    ensures { IsUnread name.now result }
-{
-    match Name::new(alloc, name) {
-        Ok(name) => OpenFault::Read { name },
-        Err(_) => OpenFault::Memory,
-    }
 }

@@ -26,7 +26,7 @@ use crate::opening::Opened;
 use crate::plain_scripts::open_plain;
 use crate::programs::Programs;
 use crate::staging::stage_all;
-use crate::stop::{Stop, stop_by, stop_for, tell_stop};
+use crate::stop::{Stop, stop_by, tell_stop};
 use device_port::{Device, Devices};
 use snapshot_store::Snapshot;
 use std::alloc::Global;
@@ -100,7 +100,7 @@ fn save<V: Vault, S: Sink>(
 {
     match open_plain(alloc, vault, request.script) {
         Ok(opened) => save_opened(alloc, vault, out, devices, opened, request),
-        Err(fault) => Err(stop_for(fault)),
+        Err(stop) => Err(stop),
     }
 }
 

@@ -3,13 +3,14 @@
 ghost use Rattle.std.specs.Prelude.{◌≡◌, ◌≤◌};
 ghost use Rattle.vault_port.specs.Counts.{FailsAtMostOnce};
 ghost use Rattle.script_command.specs.SnapshotCalls.{output};
-ghost use Rattle.script_command.specs.SnapshotViews.{IsToldStop, Tells, refused_for, stop_by, stop_for, thaw_stop};
+ghost use Rattle.script_command.specs.SnapshotViews.{IsToldStop, Tells, refused_for, refused_module, stop_by, thaw_stop};
+ghost use Rattle.script_command.specs.Views.{IsUnread};
 
-use crate::opening::OpenFault;
 use pause_host::ThawFault;
 use std::alloc::{AllocError, Global};
 use transcript::{Refusal, RefusalKind, out_of_memory, refuse_program};
 use vault_port::{PutFault, Sink};
+use wa_types::Name;
 
 /// The status of a sink that failed while lines of events were printed.
 const SINK_FAULT: u8 = 12;
@@ -46,19 +47,23 @@ pub(crate) fn refused(kind: RefusalKind) -> Stop
     })
 }
 
-/// The stop of a script that isn't opened.
-pub(crate) fn stop_for(fault: OpenFault) -> Stop
-    ensures { result ≡ stop_for fault }
+/// A refusal of the module of the program of this number.
+pub(crate) fn refused_module(number: u32, kind: RefusalKind) -> Stop
+    ensures { result ≡ refused_module number kind }
 {
-    match fault {
-        OpenFault::Memory => Stop::Memory,
-        OpenFault::Read { name } => refused(RefusalKind::ReadFault { name }),
-        OpenFault::Script(kind) => refused(kind),
-        OpenFault::Module { number, kind } => Stop::Refused(Refusal {
-            program: Some(number),
-            kind,
-        }),
-        OpenFault::Rule { line, rule } => refused(RefusalKind::Script { line, rule }),
+    Stop::Refused(Refusal {
+        program: Some(number),
+        kind,
+    })
+}
+
+/// The stop of a file that couldn't be read.
+pub(crate) fn unread(alloc: Global, name: &str) -> Stop
+    ensures { IsUnread name.now result }
+{
+    match Name::new(alloc, name) {
+        Ok(name) => refused(RefusalKind::ReadFault { name }),
+        Err(_) => Stop::Memory,
     }
 }
 

@@ -5,19 +5,19 @@ use Rattle.std.specs.Result.{IfErr}
 use Rattle.std.proofs.lemmas.List.{take_all, length-take}
 use Rattle.vault_port.specs.Files.{Files, bytes_of}
 use Rattle.vault_port.specs.Told.{WhereTold}
+use Rattle.wa_types.specs.ModuleBounds.{prepared_bounds}
+use Rattle.wa_types.specs.Syntax.{Module}
 use Rattle.script_model.specs.Script as T
 use Rattle.script_model.specs.Transcript.{Refusal, usage, out_of_memory, malformed, float, nesting, invalid, limit, reserved, script, read_fault, write_fault, snapshot_limit, snapshot_refused}
 use Rattle.transcript.specs.Printing.{refusal_of}
 use Rattle.wasm_reader.specs.Held.{Holds}
 use Rattle.wasm_reader.proofs.Held.{holds_own}
-use Rattle.script_setup.specs.declared.reading.PreparedFault.{PreparedFault}
-use Rattle.script_setup.specs.declared.reading.PreparedFault.TheVariants as P
-use Rattle.script_setup.specs.Faults.{IsToldFault}
-use Rattle.script_setup.specs.Prepared.{IsOfContent, IsUnprepared}
-use Rattle.script_setup.specs.declared.file_fault.FileFault.{FileFault}
-use Rattle.script_setup.specs.declared.file_fault.FileFault.TheVariants.{Memory, Read, Refused}
+use Rattle.wasm_reader.specs.Answers.{IsAccepted}
+use Rattle.module_files.specs.Faults.{IsFaultOf, IsInvalid, IsToldFault, IsUnread}
+use Rattle.module_files.specs.declared.fault.FileFault.{FileFault}
+use Rattle.module_files.specs.declared.fault.FileFault.TheVariants.{Memory, Read, Refused}
+use Rattle.script_setup.specs.Prepared.{IsContentFault, IsOfContent, IsUnprepared}
 use Rattle.script_setup.specs.Scripts.{IsScript, IsNoScript, HasFault}
-use Rattle.script_setup.specs.FaultViews.{IsContentFault, IsNoScriptFor, IsToldNoScript, IsToldUnprepared, file_fault}
 
 -- ---- scripts
 
@@ -37,14 +37,26 @@ script_of_file name bytes None s read there h = (bytes, tt, h)
 script_of_file name bytes (Some all) s read there h = (bytes_of all name, holds_own all name there, script_whole (bytes_of all name) s (subst (λ b. IsScript b s) read h))
 
 pub no_script_of : (name bytes : List ℕ) (files : Option Files) (fault : FileFault) → WhereTold files (λ all. bytes ≡ take 1048577 (bytes_of all name)) → WhereTold files (λ all. IsSome (all name))
-    → IsNoScriptFor bytes fault → IsToldNoScript files name fault
+    → IsFaultOf (IsNoScript bytes) fault → IsToldFault IsNoScript files name fault
 no_script_of name bytes files Memory read there h = tt
 no_script_of name bytes files Read read there h = absurd h
 no_script_of name bytes None (Refused kind) read there h = (bytes, tt, h)
 no_script_of name bytes (Some all) (Refused kind) read there h =
     (bytes_of all name, holds_own all name there, no_script_whole (bytes_of all name) (refusal_of kind) (subst (λ b. IsNoScript b (refusal_of kind)) read h))
 
--- ---- answers
+-- ---- modules
+
+-- what reading or validity refuses
+pub unread_unprepared : (bytes : List ℕ) (r : Refusal) → IsUnread prepared_bounds bytes r → IsUnprepared bytes r
+unread_unprepared bytes (malformed at) h = h
+unread_unprepared bytes (float at) h = h
+unread_unprepared bytes (nesting at) h = h
+unread_unprepared bytes (limit what found) h = h
+unread_unprepared bytes _ h = absurd h
+
+pub invalid_unprepared : (bytes : List ℕ) (m : Module) → IsAccepted prepared_bounds bytes m → (r : Refusal) → IsInvalid m r → IsUnprepared bytes r
+invalid_unprepared bytes m read (invalid func rule at) h = (m, read, h)
+invalid_unprepared bytes m read _ h = absurd h
 
 content_of : (bytes : List ℕ) (r : Refusal) → IsUnprepared bytes r → IsOfContent r
 content_of bytes (malformed at) h = tt
@@ -61,15 +73,10 @@ content_of bytes (write_fault name) h = h
 content_of bytes (snapshot_limit found) h = h
 content_of bytes snapshot_refused h = h
 
-pub unprepared_told : (name : List ℕ) (files : Option Files) (fault : PreparedFault) (told : FileFault) → told ≡ file_fault fault → IsToldFault files name fault → IsToldUnprepared files name told
-unprepared_told name files P.Memory told e h = subst (IsToldUnprepared files name) (sym e) tt
-unprepared_told name files P.Read told e h = subst (IsToldUnprepared files name) (sym e) tt
-unprepared_told name files (P.Refused kind) told e h = subst (IsToldUnprepared files name) (sym e) h
-
-pub content_told : (name : List ℕ) (files : Option Files) (fault : PreparedFault) (told : FileFault) → told ≡ file_fault fault → IsToldFault files name fault → IsContentFault told
-content_told name files P.Memory told e h = subst IsContentFault (sym e) tt
-content_told name files P.Read told e h = subst IsContentFault (sym e) tt
-content_told name files (P.Refused kind) told e h = subst IsContentFault (sym e) (content_of h.0 (refusal_of kind) h.2)
+pub content_told : (name : List ℕ) (files : Option Files) (fault : FileFault) → IsToldFault IsUnprepared files name fault → IsContentFault fault
+content_told name files Memory h = tt
+content_told name files Read h = tt
+content_told name files (Refused kind) h = content_of h.0 (refusal_of kind) h.2
 
 pub if_err_weaker : {T E : Type 0} (r : Result T E) (P Q : E → Type 0) → ((e : E) → P e → Q e) → IfErr r P → IfErr r Q
 if_err_weaker (Ok x) P Q f h = tt

@@ -4,5 +4,4 @@ pub mod Fronts
 pub mod Gathered
 pub mod GlobalTables
 pub mod GlobalTypes
-pub mod Refused
 pub mod Told

@@ -1,6 +1,4 @@
 pub mod Bindings
-pub mod FaultViews
-pub mod Faults
 pub mod Places
 pub mod Prepared
 pub mod Scripts

@@ -7,6 +7,9 @@ use Rattle.wa_types.specs.Validity.{Valid}
 use Rattle.script_model.specs.Transcript.{Refusal, usage, out_of_memory, malformed, float, nesting, limit, invalid, read_fault, write_fault, snapshot_limit, snapshot_refused}
 use Rattle.wasm_reader.specs.declared.read_fault.ReadFault.TheVariants.{Malformed, Float, Deep, Limit}
 use Rattle.wasm_reader.specs.Answers.{IsAccepted, IsRefused}
+use Rattle.transcript.specs.Printing.{refusal_of}
+use Rattle.module_files.specs.declared.fault.FileFault.{FileFault}
+use Rattle.module_files.specs.declared.fault.FileFault.TheVariants.{Refused}
 
 -- The bytes spell this module, without a float and within the limits of a prepared module, and it is valid. No name is reserved.
 pub record IsPrepared (bytes : List ℕ) (m : Module) : Type 0 where
@@ -31,3 +34,8 @@ IsOfContent (write_fault name) = ⊥
 IsOfContent (snapshot_limit found) = ⊥
 IsOfContent snapshot_refused = ⊥
 IsOfContent _ = Unit {0}
+
+-- .. where the fault is one
+abbrev pub IsContentFault : FileFault → Type 0
+IsContentFault (Refused kind) = IsOfContent (refusal_of kind)
+IsContentFault _ = Unit {0}

@@ -9,7 +9,7 @@
 //! imported globals of its value's type; and, for `run`, no memory is shown that overlaps the area. `bindings` tells which device answers
 //! each import: that of the last `device` line with its joined name (`specs/Bindings.antt`). Nothing runs here.
 //!
-//! - `file_fault`, `scripts`, `reading`, `modules`: why a file's content isn't there; scripts; modules in files, or their refusal.
+//! - `scripts`, `modules`: scripts and prepared modules in files, or their refusal.
 //! - `fault`, `names`, `entries`: why a program isn't set up, the names in its lines, and its entries.
 //! - `globals`, `binding`: imported globals and the lines that set them, imports and the devices of lines.
 //! - `setting`: `set_up_program`.
@@ -18,17 +18,14 @@
 mod binding;
 mod entries;
 mod fault;
-mod file_fault;
 mod globals;
 mod modules;
 mod names;
-mod reading;
 mod scripts;
 mod setting;
 
 pub use binding::bindings;
 pub use fault::RuleFault;
-pub use file_fault::FileFault;
 pub use modules::fetch_prepared;
 pub use names::program_names;
 pub use scripts::fetch_script;

@@ -8,12 +8,12 @@ ghost use Rattle.wa_types.specs.declared.bounds.LimitKind.TheVariants.{Programs 
 ghost use Rattle.script_model.specs.Transcript.{limit};
 ghost use Rattle.transcript.specs.Printing.{refusal_of};
 ghost use Rattle.script_reader.specs.Views.{script_of};
-ghost use Rattle.script_setup.specs.Prepared.{IsOfContent};
+ghost use Rattle.module_files.specs.Faults.{IsFaultOf, IsToldFault};
 ghost use Rattle.wasm_reader.specs.Held.{Holds};
-ghost use Rattle.script_setup.specs.Scripts.{IsScript};
-ghost use Rattle.script_setup.specs.FaultViews.{IsContentFault, IsNoScriptFor, IsToldNoScript};
+ghost use Rattle.script_setup.specs.Prepared.{IsContentFault};
+ghost use Rattle.script_setup.specs.Scripts.{IsNoScript, IsScript};
 
-use crate::file_fault::FileFault;
+use module_files::FileFault;
 use script_reader::{Script, ScriptFault, read_script};
 use std::alloc::Global;
 use transcript::RefusalKind;
@@ -29,7 +29,7 @@ const MOST_BYTES: usize = 1_048_576;
 /// The script in this file. No file changes.
 pub fn fetch_script<V: Vault>(alloc: Global, vault: &mut V, name: &str) -> Result<Script, FileFault>
     ensures script { IfOk result (λ s. (bytes : List ℕ) × Holds (V.files vault.old) name.now bytes × IsScript bytes (script_of s)) }
-    ensures refused { IfErr result (λ fault. IsToldNoScript (V.files vault.old) name.now fault) }
+    ensures refused { IfErr result (λ fault. IsToldFault IsNoScript (V.files vault.old) name.now fault) }
     ensures content { IfErr result IsContentFault }
     ensures read { IsErrOf result FileFault.Read
         → CannotRead (V.files vault.old) name.now (V.fetch_faults vault.old) (V.fetch_faults vault.new) }
@@ -51,7 +51,7 @@ pub fn fetch_script<V: Vault>(alloc: Global, vault: &mut V, name: &str) -> Resul
 // The script that these bytes are.
 fn script_in(alloc: Global, bytes: &[u8]) -> Result<Script, FileFault>
     ensures script { IfOk result (λ s. IsScript bytes.now (script_of s)) }
-    ensures refused { IfErr result (λ fault. IsNoScriptFor bytes.now fault) }
+    ensures refused { IfErr result (λ fault. IsFaultOf (IsNoScript bytes.now) fault) }
     ensures content { IfErr result IsContentFault }
 {
     if MOST_BYTES < bytes.len() {

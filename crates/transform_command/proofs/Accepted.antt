@@ -15,9 +15,7 @@ use Rattle.wa_types.specs.Syntax.{Func, Module}
 use Rattle.wa_types.specs.Validity.{Valid}
 use Rattle.wa_types.specs.View.{module_of}
 use Rattle.file_laws.proofs.SpelledFits.{spelled_fits}
-use Rattle.wasm_reader.specs.declared.read_fault.ReadFault.{ReadFault}
-use Rattle.wasm_reader.specs.declared.read_fault.ReadFault.TheVariants.{Memory, Malformed, Float, Deep, Limit}
-use Rattle.wasm_reader.specs.Answers.{IsAccepted, IsRefused}
+use Rattle.wasm_reader.specs.Answers.{IsAccepted}
 use Rattle.wasm_reader.proofs.Accepting.{accepted_spelled, accepted_strictly}
 use Rattle.wasm_reader.proofs.ShortFile.{written_short}
 use Rattle.flatten.specs.Whole.{NonePasses, FirstPasses}
@@ -40,9 +38,12 @@ use Rattle.assert_laws.specs.EmittedWithAsserts.{EmittedWithAsserts}
 use Rattle.assert_laws.proofs.BytesWithAsserts.{prepared_law, spelled_law}
 use Rattle.transform_command.specs.Manners.{EmitsBy, RewritesAs, plainly}
 use Rattle.transform_command.proofs.NormWithAsserts.{norm_rewritten_with}
-use Rattle.transform_command.specs.declared.source.SourceFault.{SourceFault}
-use Rattle.transform_command.specs.Sources.{IsValidSource, told_counts, rewritten_counts}
-use Rattle.transform_command.specs.SourceRefusals.{IsFaultOf, IsOfRead, IsOfEmit, IsOfRewrite, IsUnreserved}
+use Rattle.module_files.specs.declared.fault.FileFault.{FileFault}
+use Rattle.module_files.specs.Faults.{IsFaultOf, IsInvalid, IsUnread}
+use Rattle.script_model.specs.Transcript as T
+use Rattle.script_model.specs.Transcript.{Refusal}
+use Rattle.transform_command.specs.Sources.{IsFree, IsValidSource, told_counts, rewritten_counts, malformed, float, deep, limit, invalid, rewritten_locals, long_output}
+use Rattle.transform_command.specs.SourceRefusals.{IsOfEmit, IsOfRewrite, IsRefusedAs, IsRefusedUnwritten, IsUnreserved}
 
 -- ---- locals
 
@@ -148,24 +149,35 @@ module _ (bytes : List ℕ) (m : Module) (src : IsValidSource bytes m) where
     asserted_prepared p e are_bytes short = prepared_law m s which p bytes can e read short (spelled_law m s which p can e (well are_bytes) short)
 
 -- the parts of a valid source
-pub made_source : (bytes : List ℕ) (m v : ModuleValue) → v ≡ m → IsAccepted source_bounds bytes (module_of m) → reserved_at (module_of m) ≡ None → Valid (module_of m)
+pub made_source : (bytes : List ℕ) (m v : ModuleValue) → v ≡ m → IsAccepted source_bounds bytes (module_of m) → reserved_at (module_of m) ≡ None → Valid (module_of v)
     → IsValidSource bytes (module_of v)
-made_source bytes m v e a r d = subst (λ (z : ModuleValue). IsValidSource bytes (module_of z)) (sym e) (record { unreserved = record { read = a; free = r }; valid = d })
+made_source bytes m v e a r d = record { unreserved = subst (λ (z : ModuleValue). IsFree bytes (module_of z)) (sym e) (record { read = a; free = r }); valid = d }
 
--- what reading refuses
-pub read_refused : (how : Manner) (bytes : List ℕ) (fault : ReadFault) (r : SourceFault) → IsRefused source_bounds bytes fault → IsOfRead fault r → IsFaultOf how bytes r
-read_refused how bytes Memory r h e = subst (IsFaultOf how bytes) (sym e) tt
-read_refused how bytes (Malformed at) r h e = subst (IsFaultOf how bytes) (sym e) h
-read_refused how bytes (Float at) r h e = subst (IsFaultOf how bytes) (sym e) h
-read_refused how bytes (Deep at) r h e = subst (IsFaultOf how bytes) (sym e) h
-read_refused how bytes (Limit what n) r h e = subst (IsFaultOf how bytes) (sym e) h
+-- ---- refusals
+
+-- what reading refuses, or validity
+pub unread_refused : (how : Manner) (bytes : List ℕ) (r : Refusal) → IsUnread source_bounds bytes r → IsRefusedUnwritten how bytes r
+unread_refused how bytes (T.malformed at) h = (malformed at, h, tt, refl)
+unread_refused how bytes (T.float at) h = (float at, h, tt, refl)
+unread_refused how bytes (T.nesting at) h = (deep at, h, tt, refl)
+unread_refused how bytes (T.limit what found) h = (limit what found, h, tt, refl)
+unread_refused how bytes _ h = absurd h
+
+pub invalid_refused : (how : Manner) (bytes : List ℕ) (m : Module) → IsFree bytes m → (r : Refusal) → IsInvalid m r → IsRefusedUnwritten how bytes r
+invalid_refused how bytes m free (T.invalid func rule at) h = (invalid func rule at, (m, free, h), tt, refl)
+invalid_refused how bytes m free _ h = absurd h
+
+-- what is refused before it is written is refused
+pub refused_as : (how : Manner) (bytes : List ℕ) (r : Refusal) → IsRefusedUnwritten how bytes r → IsRefusedAs how bytes r
+refused_as how bytes r h = (h.0, h.1, h.3)
 
 -- what rewriting refuses
-pub rewrite_refused : (s : Settings) (bytes : List ℕ) (m : Module) (fault : RewriteFault) (r : SourceFault) → IsValidSource bytes m → Asyncifies m s (Err fault) → IsOfRewrite fault r
-    → IsFaultOf (plainly s) bytes r
-rewrite_refused s bytes m rewrite_memory r src h e = subst (IsFaultOf (plainly s) bytes) (sym e) tt
+pub rewrite_refused : (s : Settings) (bytes : List ℕ) (m : Module) (fault : RewriteFault) (r : FileFault) → IsValidSource bytes m → Asyncifies m s (Err fault) → IsOfRewrite fault r
+    → IsFaultOf (IsRefusedUnwritten (plainly s) bytes) r
+rewrite_refused s bytes m rewrite_memory r src h e = subst (IsFaultOf (IsRefusedUnwritten (plainly s) bytes)) (sym e) tt
 rewrite_refused s bytes m (rewrite_locals func count) r src h e =
-    subst (IsFaultOf (plainly s) bytes) (sym e) (m, h.which, src, h.tells, first_passes m func count (func_imports m) (drop (func_imports m) h.which) m.funcs h.first)
+    subst (IsFaultOf (IsRefusedUnwritten (plainly s) bytes)) (sym e)
+    (rewritten_locals count, (m, h.which, src, h.tells, first_passes m func count (func_imports m) (drop (func_imports m) h.which) m.funcs h.first), tt, refl)
 rewrite_refused s bytes m (rewrite_reserved at) r src h e = absurd e
 
 pub none_reserved : (s : Settings) (bytes : List ℕ) (m : Module) (fault : RewriteFault) → IsValidSource bytes m → Asyncifies m s (Err fault) → IsUnreserved fault
@@ -174,26 +186,26 @@ none_reserved s bytes m (rewrite_locals func count) src h = tt
 none_reserved s bytes m (rewrite_reserved at) src h = let bad = sym src.unreserved.free ∙ h in cc
 
 -- what writing it refuses
-emit_refused_by : (b : Bool) (s : Settings) (bytes : List ℕ) (m : Module) (fault : EmitFault) (r : SourceFault) → IsValidSource bytes m → EmitsBy b m s (Err fault) → IsOfEmit fault r
-    → IsFaultOf (record { settings = s; asserts = b }) bytes r
-emit_refused_by b s bytes m emit_memory r src h e = subst (IsFaultOf (record { settings = s; asserts = b }) bytes) (sym e) tt
+emit_refused_by : (b : Bool) (s : Settings) (bytes : List ℕ) (m : Module) (fault : EmitFault) (r : FileFault) → IsValidSource bytes m → EmitsBy b m s (Err fault) → IsOfEmit fault r
+    → IsFaultOf (IsRefusedAs (record { settings = s; asserts = b }) bytes) r
+emit_refused_by b s bytes m emit_memory r src h e = subst (IsFaultOf (IsRefusedAs (record { settings = s; asserts = b }) bytes)) (sym e) tt
 emit_refused_by false s bytes m (emit_locals func count) r src h e =
-    subst (IsFaultOf (record { settings = s; asserts = false }) bytes) (sym e)
-    (m, h.which, src, h.tells, first_passes m func count (func_imports m) (drop (func_imports m) h.which) m.funcs h.first)
+    subst (IsFaultOf (IsRefusedAs (record { settings = s; asserts = false }) bytes)) (sym e)
+    (rewritten_locals count, (m, h.which, src, h.tells, first_passes m func count (func_imports m) (drop (func_imports m) h.which) m.funcs h.first), refl)
 emit_refused_by true s bytes m (emit_locals func count) r src h e =
-    subst (IsFaultOf (record { settings = s; asserts = true }) bytes) (sym e)
-    (m, h.which, src, h.tells, first_passes m func count (func_imports m) (drop (func_imports m) h.which) m.funcs h.first)
+    subst (IsFaultOf (IsRefusedAs (record { settings = s; asserts = true }) bytes)) (sym e)
+    (rewritten_locals count, (m, h.which, src, h.tells, first_passes m func count (func_imports m) (drop (func_imports m) h.which) m.funcs h.first), refl)
 emit_refused_by false s bytes m (emit_too_long len) r src h e =
     let few = none_passes m (drop (func_imports m) h.which) m.funcs h.can.few in
-    subst (IsFaultOf (record { settings = s; asserts = false }) bytes) (sym e)
-    (m, h.which, h.written, record { accepted = src; tells = h.can.tells; few = few }, h.is, h.over, h.rewrites)
+    subst (IsFaultOf (IsRefusedAs (record { settings = s; asserts = false }) bytes)) (sym e)
+    (long_output len, (m, h.which, h.written, record { accepted = src; tells = h.can.tells; few = few }, h.is, h.over, h.rewrites), refl)
 emit_refused_by true s bytes m (emit_too_long len) r src h e =
     let few = none_passes m (drop (func_imports m) h.which) m.funcs h.can.few in
-    subst (IsFaultOf (record { settings = s; asserts = true }) bytes) (sym e)
-    (m, h.which, h.written, record { accepted = src; tells = h.can.tells; few = few }, h.is, h.over, h.rewrites)
+    subst (IsFaultOf (IsRefusedAs (record { settings = s; asserts = true }) bytes)) (sym e)
+    (long_output len, (m, h.which, h.written, record { accepted = src; tells = h.can.tells; few = few }, h.is, h.over, h.rewrites), refl)
 
-pub emit_refused : (how : Manner) (bytes : List ℕ) (m : Module) (fault : EmitFault) (r : SourceFault) → IsValidSource bytes m → EmitsBy how.asserts m how.settings (Err fault) → IsOfEmit fault r
-    → IsFaultOf how bytes r
+pub emit_refused : (how : Manner) (bytes : List ℕ) (m : Module) (fault : EmitFault) (r : FileFault) → IsValidSource bytes m → EmitsBy how.asserts m how.settings (Err fault) → IsOfEmit fault r
+    → IsFaultOf (IsRefusedAs how bytes) r
 emit_refused how bytes m fault r src h e = emit_refused_by how.asserts how.settings bytes m fault r src h e
 
 -- ---- what is written of a source

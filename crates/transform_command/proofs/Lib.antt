@@ -1,5 +1,4 @@
 pub mod Accepted
-pub mod Files
 mod NormWithAsserts
 pub mod OneEnd
 pub mod OneOriginal

@@ -19,7 +19,7 @@ memory_any how files files' input output p p' (Some x) (Some y) h =
 memory_any how files files' input output p p' None (Some y) h = h
 memory_any how files files' input output p p' (Some x) None h = h
 
-never_nine : (cause : Cause) → 9 ≡ status_of (refusal_for cause) → ⊥
+pub never_nine : (cause : Cause) → 9 ≡ status_of (refusal_for cause) → ⊥
 never_nine (malformed at) e = absurd (omega (arith, e))
 never_nine (float at) e = absurd (omega (arith, e))
 never_nine (deep at) e = absurd (omega (arith, e))

@@ -120,6 +120,11 @@ IsRefusedIn how bytes (long_output found) =
 abbrev pub IsRefusedFor : Settings → List ℕ → Cause → Type 0
 IsRefusedFor s bytes cause = IsRefusedIn (plainly s) bytes cause
 
+-- nothing is written yet, so that no length is refused
+abbrev pub IsUnwritten : Cause → Type 0
+IsUnwritten (long_output found) = ⊥
+IsUnwritten _ = Unit {0}
+
 -- the refusal that is told
 abbrev pub refusal_for : Cause → Refusal
 refusal_for (malformed at) = T.malformed at

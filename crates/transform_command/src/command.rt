@@ -11,7 +11,6 @@ ghost use Rattle.transform_command.specs.Manners.{manner_of};
 ghost use Rattle.transform_command.specs.Sources.{IsTransformed};
 ghost use Rattle.transform_command.specs.Transforms.{HasCause, HoldsSource, IsCutShort, PrintsRefusal, PrintsDone, PrintsLess, RunsOutOfMemory};
 
-use crate::refusals::refusal_kind;
 use crate::report::report;
 use crate::transform::{TransformFault, transform};
 use call_graph::Settings;
@@ -64,7 +63,7 @@ pub fn run_transform<V: Vault, S: Sink>(
         Ok(done) => report(alloc, out, done),
         Err(TransformFault::Memory) => out_of_memory(out),
         Err(TransformFault::Read) => refuse_read(alloc, out, input),
-        Err(TransformFault::Refused(refusal)) => refuse(alloc, out, refusal_kind(refusal)),
+        Err(TransformFault::Refused(kind)) => refuse(alloc, out, kind),
         Err(TransformFault::Write) => refuse_write(alloc, out, output),
     }
 }

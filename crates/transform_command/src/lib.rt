@@ -10,18 +10,16 @@
 //! `rewrite` reads the module in a file within the limits of a source, refuses it by the first cause there is (`specs/Sources.antt`), and
 //! answers the bytes of the rewritten one. `rewritten` does the same without bytes, for whoever runs the module.
 //!
-//! - `refusals`, `source`, `running`: why a source is refused, from its file to bytes, and to a module that is run.
+//! - `source`, `running`: from the file of a source to bytes, and to a module that is run.
 //! - `transform`, `report`, `command`: from file to file, what is printed, and the command.
 #![tactic(auto)]
 
 mod command;
-mod refusals;
 mod report;
 mod running;
 mod source;
 mod transform;
 
 pub use command::run_transform;
-pub use refusals::refusal_kind;
 pub use running::{Runnable, rewritten};
-pub use source::{SourceFault, Written};
+pub use source::Written;

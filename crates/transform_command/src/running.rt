@@ -7,11 +7,13 @@ ghost use Rattle.vault_port.specs.Files.{CannotRead};
 ghost use Rattle.wa_types.specs.View.{module_of};
 ghost use Rattle.wasm_reader.specs.Held.{Holds};
 ghost use Rattle.transform_command.specs.Manners.{plainly};
-ghost use Rattle.transform_command.specs.SourceRefusals.{IsToldFault, IsUnwritten};
+ghost use Rattle.module_files.specs.Faults.{IsToldFault};
+ghost use Rattle.transform_command.specs.SourceRefusals.{IsRefusedUnwritten};
 ghost use Rattle.transform_command.specs.Running.{RunsAs};
 
-use crate::source::{SourceFault, rewrite_fault, source};
+use crate::source::{rewrite_fault, source};
 use call_graph::Settings;
+use module_files::FileFault;
 use module_rewrite::rewrite_module;
 use std::alloc::Global;
 use vault_port::Vault;
@@ -31,14 +33,13 @@ pub fn rewritten<V: Vault>(
     vault: &mut V,
     name: &str,
     settings: &Settings,
-) -> Result<Runnable, SourceFault>
+) -> Result<Runnable, FileFault>
     ensures done { IfOk result (λ r. (bytes : List ℕ) × Holds (V.files vault.old) name.now bytes
         × RunsAs (settings_of settings.now) bytes r.listed.items (module_of r.«module»)) }
-    ensures refused { IfErr result (λ fault. IsToldFault (plainly (settings_of settings.now)) (V.files vault.old) name.now fault) }
-    ensures unwritten { IfErr result IsUnwritten }
-    ensures read { IsErrOf result SourceFault.Read
+    ensures refused { IfErr result (λ fault. IsToldFault (IsRefusedUnwritten (plainly (settings_of settings.now))) (V.files vault.old) name.now fault) }
+    ensures read { IsErrOf result FileFault.Read
         → CannotRead (V.files vault.old) name.now (V.fetch_faults vault.old) (V.fetch_faults vault.new) }
-    ensures stays { result ≢ Err SourceFault.Read → V.fetch_faults vault.new ≡ V.fetch_faults vault.old }
+    ensures stays { result ≢ Err FileFault.Read → V.fetch_faults vault.new ≡ V.fetch_faults vault.old }
     ensures kept { V.files vault.new ≡ V.files vault.old }
     ensures faults { V.fetch_faults vault.old ≤ V.fetch_faults vault.new }
     ensures saves { V.save_faults vault.new ≡ V.save_faults vault.old }

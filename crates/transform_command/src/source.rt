@@ -12,45 +12,22 @@ ghost use Rattle.script_model.specs.Command.{Manner};
 ghost use Rattle.wasm_reader.specs.Answers.{IsAccepted};
 ghost use Rattle.local_spill.specs.Reserved.{reserved_at};
 ghost use Rattle.wasm_reader.specs.Held.{Holds};
-ghost use Rattle.transform_command.specs.declared.source.SourceFault.TheVariants.{Memory};
+ghost use Rattle.module_files.specs.Faults.{IsFaultOf, IsToldFault};
 ghost use Rattle.transform_command.specs.Manners.{EmitsBy, manner_of};
-ghost use Rattle.transform_command.specs.SourceRefusals.{IsFaultOf, IsOfEmit, IsOfFile, IsOfRead, IsOfRewrite, IsToldFault, IsUnreserved, IsUnwritten};
+ghost use Rattle.transform_command.specs.SourceRefusals.{IsOfEmit, IsOfRewrite, IsRefusedAs, IsRefusedUnwritten, IsUnreserved};
 ghost use Rattle.transform_command.specs.Sources.{HoldsValidSource, IsRewritten, IsValidSource, reserved_name};
 
-use crate::refusals::Refusal;
 use assert_rewrite::emit_with_asserts;
 use bytes::BytesMut;
 use call_graph::Settings;
 use local_spill::{ReservedAt, reserved};
+use module_files::{FileFault, read_module, valid_module};
 use module_rewrite::{EmitFault, Emitted, RewriteFault, emit_module};
 use std::alloc::{AllocError, Global};
-use thiserror::Error;
+use transcript::RefusalKind;
 use vault_port::Vault;
-use wa_types::{Bounds, Module, Name};
-use wasm_reader::{ModuleFault, ReadFault, read_file};
-use wasm_validate::{Valid, ValidateFault, validate};
-
-/// Why no module was written.
-#[derive(Debug, Drop, Error)]
-pub enum SourceFault {
-    #[error("out of memory")]
-    Memory,
-    #[error("the file could not be read")]
-    Read,
-    #[error("the module is refused")]
-    Refused(Refusal),
-}
-
-impl From<AllocError> for SourceFault {
-    ghost use Rattle.std.specs.Prelude.{◌≡◌};
-    ghost use Rattle.transform_command.specs.declared.source.SourceFault.TheVariants.{Memory};
-
-    ghost from_gives = { λ _ fault. fault ≡ Memory };
-
-    fn from(_error: AllocError) -> SourceFault {
-        SourceFault::Memory
-    }
-}
+use wa_types::{Bounds, LimitKind, Module, Name};
+use wasm_validate::Valid;
 
 /// What is written: the module's bytes, how many functions the source defines, and how many of them may pause.
 #[derive(Drop)]
@@ -66,13 +43,13 @@ pub fn rewrite<V: Vault>(
     vault: &mut V,
     name: &str,
     settings: &Settings,
-) -> Result<Written, SourceFault>
+) -> Result<Written, FileFault>
     ensures done { IfOk result (λ r. (bytes : List ℕ) × Holds (V.files vault.old) name.now bytes
         × IsRewritten (manner_of settings.now) bytes r.functions r.instrumented r.text.items) }
-    ensures refused { IfErr result (λ fault. IsToldFault (manner_of settings.now) (V.files vault.old) name.now fault) }
-    ensures read { IsErrOf result SourceFault.Read
+    ensures refused { IfErr result (λ fault. IsToldFault (IsRefusedAs (manner_of settings.now)) (V.files vault.old) name.now fault) }
+    ensures read { IsErrOf result FileFault.Read
         → CannotRead (V.files vault.old) name.now (V.fetch_faults vault.old) (V.fetch_faults vault.new) }
-    ensures stays { result ≢ Err SourceFault.Read → V.fetch_faults vault.new ≡ V.fetch_faults vault.old }
+    ensures stays { result ≢ Err FileFault.Read → V.fetch_faults vault.new ≡ V.fetch_faults vault.old }
     ensures kept { V.files vault.new ≡ V.files vault.old }
     ensures faults { V.fetch_faults vault.old ≤ V.fetch_faults vault.new }
     ensures saves { V.save_faults vault.new ≡ V.save_faults vault.old }
@@ -109,73 +86,69 @@ fn emit(alloc: Global, valid: Valid, settings: &Settings) -> Result<Emitted, Emi
 }
 
 /// The module that this file spells, where it is a valid source. No file changes.
-pub(crate) fn source<V: Vault>(
-    alloc: Global,
-    vault: &mut V,
-    name: &str,
-) -> Result<Valid, SourceFault>
+pub(crate) fn source<V: Vault>(alloc: Global, vault: &mut V, name: &str) -> Result<Valid, FileFault>
     ensures source { IfOk result (λ r. HoldsValidSource (V.files vault.old) name.now (module_of r)) }
-    ensures unwritten { IfErr result IsUnwritten }
-    ensures refused { IfErr result (λ fault. (how : Manner) → IsToldFault how (V.files vault.old) name.now fault) }
-    ensures read { IsErrOf result SourceFault.Read
+    ensures refused { IfErr result (λ fault. (how : Manner) → IsToldFault (IsRefusedUnwritten how) (V.files vault.old) name.now fault) }
+    ensures read { IsErrOf result FileFault.Read
         → CannotRead (V.files vault.old) name.now (V.fetch_faults vault.old) (V.fetch_faults vault.new) }
-    ensures stays { result ≢ Err SourceFault.Read → V.fetch_faults vault.new ≡ V.fetch_faults vault.old }
+    ensures stays { result ≢ Err FileFault.Read → V.fetch_faults vault.new ≡ V.fetch_faults vault.old }
     ensures kept { V.files vault.new ≡ V.files vault.old }
     ensures faults { V.fetch_faults vault.old ≤ V.fetch_faults vault.new }
     ensures saves { V.save_faults vault.new ≡ V.save_faults vault.old }
 {
-    match read_file(alloc, vault, name, Bounds::source()) {
+    match read_module(alloc, vault, name, Bounds::source()) {
         Ok(module) => valid_source(alloc, module),
-        Err(fault) => Err(file_fault(fault)),
+        Err(fault) => Err(fault),
     }
 }
 
 // A module that was read, where it is a valid source.
-fn valid_source(alloc: Global, module: Module) -> Result<Valid, SourceFault>
+fn valid_source(alloc: Global, module: Module) -> Result<Valid, FileFault>
     requires { SizeRule (module_of «module») }
     ensures source { (bytes : List ℕ) → IsAccepted source_bounds bytes (module_of «module») → IfOk result (λ r. IsValidSource bytes (module_of r)) }
-    ensures unwritten { IfErr result IsUnwritten }
-    ensures refused { (bytes : List ℕ) → IsAccepted source_bounds bytes (module_of «module») → IfErr result (λ fault. (how : Manner) → IsFaultOf how bytes fault) }
-    ensures no_read { result ≢ Err SourceFault.Read }
+    ensures refused { (bytes : List ℕ) → IsAccepted source_bounds bytes (module_of «module») → IfErr result (λ fault. (how : Manner) → IsFaultOf (IsRefusedUnwritten how bytes) fault) }
+    ensures no_read { result ≢ Err FileFault.Read }
 {
     if let Some(at) = reserved(&module) {
         let name = name_at(alloc, &module, at)?;
-        return Err(SourceFault::Refused(Refusal::Reserved { name }));
+        return Err(FileFault::Refused(RefusalKind::Reserved { name }));
     }
-    match validate(alloc, module) {
-        Ok(valid) => Ok(valid),
-        Err(ValidateFault::Memory) => Err(SourceFault::Memory),
-        Err(ValidateFault::Invalid { func, rule, at }) => {
-            Err(SourceFault::Refused(Refusal::Invalid { func, rule, at }))
-        }
-    }
+    valid_module(alloc, module)
 }
 
 /// Why a valid source isn't rewritten; it has no reserved name.
-pub(crate) fn rewrite_fault(fault: RewriteFault) -> SourceFault
+pub(crate) fn rewrite_fault(fault: RewriteFault) -> FileFault
     requires { IsUnreserved fault }
-    ensures fault { IsOfRewrite fault result }
-    ensures unwritten { IsUnwritten result }
+    ensures { IsOfRewrite fault result }
 {
     match fault {
-        RewriteFault::Memory => SourceFault::Memory,
-        RewriteFault::Locals { count, .. } => {
-            SourceFault::Refused(Refusal::RewrittenLocals { found: count })
-        }
+        RewriteFault::Memory => FileFault::Memory,
+        RewriteFault::Locals { count, .. } => FileFault::Refused(locals_limit(count)),
         RewriteFault::Reserved(_) => unreachable!(),
     }
 }
 
 // Why the rewritten module of a valid source isn't written.
-fn emit_fault(fault: EmitFault) -> SourceFault
+fn emit_fault(fault: EmitFault) -> FileFault
     ensures { IsOfEmit fault result }
 {
     match fault {
-        EmitFault::Memory => SourceFault::Memory,
-        EmitFault::Locals { count, .. } => {
-            SourceFault::Refused(Refusal::RewrittenLocals { found: count })
-        }
-        EmitFault::TooLong { len } => SourceFault::Refused(Refusal::Output { found: len }),
+        EmitFault::Memory => FileFault::Memory,
+        EmitFault::Locals { count, .. } => FileFault::Refused(locals_limit(count)),
+        EmitFault::TooLong { len } => FileFault::Refused(RefusalKind::Limit {
+            what: LimitKind::Output,
+            found: len,
+        }),
+    }
+}
+
+// A function has so many locals.
+fn locals_limit(count: u32) -> RefusalKind
+    ensures { result ≡ RefusalKind.Limit LimitKind.Locals count }
+{
+    RefusalKind::Limit {
+        what: LimitKind::Locals,
+        found: u64::from(count),
     }
 }
 
@@ -183,32 +156,6 @@ fn told_count(told: &[bool]) -> usize
     ensures { result ≡ count_by (λ b. b) told.now }
 {
     told.iter().filter(|told| **told).count()
-}
-
-// Why a file gave no source.
-fn file_fault(fault: ModuleFault) -> SourceFault
-    ensures fault { IsOfFile fault result }
-    ensures unwritten { IsUnwritten result }
-{
-    match fault {
-        ModuleFault::Memory => SourceFault::Memory,
-        ModuleFault::Read => SourceFault::Read,
-        ModuleFault::Refused(fault) => read_fault(fault),
-    }
-}
-
-// Why a source that isn't read is refused.
-fn read_fault(fault: ReadFault) -> SourceFault
-    ensures fault { IsOfRead fault result }
-    ensures unwritten { IsUnwritten result }
-{
-    match fault {
-        ReadFault::Memory => SourceFault::Memory,
-        ReadFault::Malformed { at } => SourceFault::Refused(Refusal::Malformed { at }),
-        ReadFault::Float { at } => SourceFault::Refused(Refusal::Float { at }),
-        ReadFault::Deep { at } => SourceFault::Refused(Refusal::Deep { at }),
-        ReadFault::Limit { what, found } => SourceFault::Refused(Refusal::Limit { what, found }),
-    }
 }
 
 // The name at which a module is reserved: an import's joined name, or an export's.

@@ -10,11 +10,12 @@ ghost use Rattle.transform_command.specs.Sources.{IsTransformed};
 ghost use Rattle.transform_command.specs.Transforms.{HoldsSource, IsCount, IsCutShort};
 ghost use Rattle.std.specs.Result.{IfErr};
 
-use crate::refusals::Refusal;
-use crate::source::{SourceFault, rewrite};
+use crate::source::rewrite;
 use call_graph::Settings;
+use module_files::FileFault;
 use std::alloc::Global;
 use thiserror::Error;
+use transcript::RefusalKind;
 use vault_port::{SaveFault, Vault, save_whole};
 
 /// Why a module was not rewritten into a file.
@@ -25,7 +26,7 @@ pub enum TransformFault {
     #[error("the module could not be read")]
     Read,
     #[error("the module is refused")]
-    Refused(Refusal),
+    Refused(RefusalKind),
     #[error("the module could not be written")]
     Write,
 }
@@ -74,9 +75,9 @@ pub fn transform<V: Vault>(
 {
     let written = match rewrite(alloc, vault, input, settings) {
         Ok(written) => written,
-        Err(SourceFault::Refused(refusal)) => return Err(TransformFault::Refused(refusal)),
-        Err(SourceFault::Read) => return Err(TransformFault::Read),
-        Err(SourceFault::Memory) => return Err(TransformFault::Memory),
+        Err(FileFault::Refused(kind)) => return Err(TransformFault::Refused(kind)),
+        Err(FileFault::Read) => return Err(TransformFault::Read),
+        Err(FileFault::Memory) => return Err(TransformFault::Memory),
     };
     match save_whole(vault, output, &written.text) {
         Ok(()) => Ok(Done {

@@ -1,9 +1,9 @@
 -- A script is opened, and goes on.
-use Rattle.std.proofs.Common.{refl, subst, sym}
+use Rattle.std.proofs.Common.{refl}
 use Rattle.script_command.specs.SnapshotCalls.{continues}
-use Rattle.script_command.specs.SnapshotViews.{IsToldStop}
 use Rattle.script_command.proofs.PlainOpenings.{told_opening}
-use Rattle.script_command.proofs.Steps.{counts_since, does_since, opening_counts, opening_stops, opens_since}
+use Rattle.script_command.proofs.Statuses.{stop_counts}
+use Rattle.script_command.proofs.Steps.{counts_since, does_since, opening_stops, opens_since}
 use Rattle.script_command.proofs.continuing.go_on.Goals as goal
 
 pub returns-in-Ok-clause-does : goal.returns-in-Ok-clause-does
@@ -16,10 +16,10 @@ returns-in-Ok-clause-counts g c = counts_since _ _ _ _ _ _ _ _ _ c.in-Ok.ensures
 
 pub returns-in-Err-clause-does : goal.returns-in-Err-clause-does
 returns-in-Err-clause-does g c =
-    opening_stops continues _ _ _ _ _ _ _ _ _ _ _ c.open_plain.ensures.kept c.in-Err.fault c.stop_for.result c.stop_for.ensures c.in-Err.ensures.refused
+    opening_stops continues _ _ _ _ _ _ _ _ _ _ _ c.open_plain.ensures.kept c.in-Err.stop c.in-Err.ensures.refused
 
 pub returns-in-Err-clause-told : goal.returns-in-Err-clause-told
-returns-in-Err-clause-told g c = subst IsToldStop (sym c.stop_for.ensures) (told_opening _ _ _ _ c.in-Err.fault c.in-Err.ensures.refused)
+returns-in-Err-clause-told g c = told_opening _ _ _ _ c.in-Err.stop c.in-Err.ensures.refused
 
 pub returns-in-Err-clause-counts : goal.returns-in-Err-clause-counts
-returns-in-Err-clause-counts g c = opening_counts _ _ _ _ _ _ c.in-Err.fault c.stop_for.result c.stop_for.ensures c.in-Err.ensures.counts c.open_plain.ensures.saves refl
+returns-in-Err-clause-counts g c = stop_counts _ _ _ _ _ _ _ _ _ c.in-Err.stop c.open_plain.ensures.saves refl c.in-Err.ensures.refused

@@ -4,7 +4,7 @@ use Rattle.std.proofs.lemmas.Result.{IfErr-weaker, IfOk-weaker}
 use Rattle.snapshot_store.specs.Views.{snapshot_of}
 use Rattle.script_command.specs.SnapshotViews.{IsText, NoText}
 use Rattle.vault_port.specs.declared.whole.FetchFault.{FetchFault}
-use Rattle.script_command.proofs.Steps.{cannot_once}
+use Rattle.vault_port.proofs.Fetching.{read_once}
 use Rattle.script_command.proofs.SnapshotFiles.{none_held, snapshot_held}
 use Rattle.script_command.proofs.files.fetch_snapshot.Goals as goal
 
@@ -21,4 +21,4 @@ returns-in-Ok-clause-none g c =
     (subst (λ (b : List ℕ). NoText b stop) (c.deref.ensures.value ∙ c.shrink_to_fit.ensures.items) h)) c.snapshot_in.ensures.none
 
 pub returns-in-Err-Read-clause-once : goal.returns-in-Err-Read-clause-once
-returns-in-Err-Read-clause-once g c = cannot_once _ _ _ _ (c.in-Err-Read.ensures.read (ap (λ (x : FetchFault). Err x) c.in-Err-Read.field-0-is))
+returns-in-Err-Read-clause-once g c = read_once _ _ _ _ (c.in-Err-Read.ensures.read (ap (λ (x : FetchFault). Err x) c.in-Err-Read.field-0-is))

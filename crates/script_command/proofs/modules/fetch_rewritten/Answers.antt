@@ -12,8 +12,8 @@ returns-in-Ok-rewritten-clause-loaded g c =
 
 pub returns-clause-refused : goal.returns-clause-refused
 returns-clause-refused g c =
-    bad_rewritten (program_of c.args.text.now) (settings_of c.in-Ok.settings) (g.V.Vault.files c.args.vault.now) c.in-Ok.ensures.settings c.in-Err.fault c.source_fault.result
-    (rw c.as_str.ensures at c.in-Err.ensures.refused) c.in-Err.ensures.unwritten c.source_fault.ensures
+    bad_rewritten (program_of c.args.text.now) (settings_of c.in-Ok.settings) (g.V.Vault.files c.args.vault.now) c.in-Ok.ensures.settings c.in-Err.fault
+    (rw c.as_str.ensures at c.in-Err.ensures.refused)
 
 pub settings_for-requires : goal.settings_for-requires
 settings_for-requires g c = c.requires

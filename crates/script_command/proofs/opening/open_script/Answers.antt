@@ -1,8 +1,6 @@
 -- The programs of a script, or why they aren't opened.
-use Rattle.std.proofs.Common.{ℕ, subst}
 use Rattle.std.proofs.lemmas.Result.{IfErr-weaker, IfOk-weaker}
 use Rattle.script_reader.specs.Views.{script_of}
-use Rattle.script_command.specs.Views.{CountsFor}
 use Rattle.script_command.proofs.Scripts.{no_script_blamed, opened_both, opens, read_script, script_blamed}
 use Rattle.script_command.proofs.opening.open_script.Goals as goal
 
@@ -18,13 +16,9 @@ returns-in-Ok-clause-opened g c =
 pub returns-in-Ok-clause-refused : goal.returns-in-Ok-clause-refused
 returns-in-Ok-clause-refused g c =
     IfErr-weaker c.open_whole.result _ _
-    (λ fault h. script_blamed c.args.way (g.V.Vault.files c.args.vault.now) c.args.script.now (g.V.Vault.fetch_faults c.args.vault.now) _ _ _ (script_of c.in-Ok.whole) fault
+    (λ stop h. script_blamed c.args.way (g.V.Vault.files c.args.vault.now) c.args.script.now (g.V.Vault.fetch_faults c.args.vault.now) _ _ _ (script_of c.in-Ok.whole) stop
     c.read_whole.ensures.kept c.in-Ok.ensures.stays c.in-Ok.ensures.script h)
     c.open_whole.ensures.refused
 
-pub returns-in-Ok-clause-counts : goal.returns-in-Ok-clause-counts
-returns-in-Ok-clause-counts g c =
-    IfErr-weaker c.open_whole.result _ _ (λ fault h. subst (λ (f : ℕ). CountsFor f (g.V.Vault.fetch_faults c.open_whole.new.vault) fault) c.in-Ok.ensures.stays h) c.open_whole.ensures.counts
-
 pub returns-in-Err-clause-refused : goal.returns-in-Err-clause-refused
-returns-in-Err-clause-refused g c = no_script_blamed c.args.way _ _ _ _ c.in-Err.fault c.in-Err.ensures.refused
+returns-in-Err-clause-refused g c = no_script_blamed c.args.way _ _ _ _ c.in-Err.stop c.in-Err.ensures.refused

@@ -10,10 +10,10 @@ pub open_whole-requires : goal.open_whole-requires
 open_whole-requires g c = read_script _ _ _ c.in-Ok.ensures.script
 
 pub returns-in-Err-clause-refused : goal.returns-in-Err-clause-refused
-returns-in-Err-clause-refused g c = script_named _ _ _ _ c.in-Err.fault c.in-Err.ensures.refused
+returns-in-Err-clause-refused g c = script_named _ _ _ _ c.in-Err.stop c.in-Err.ensures.refused
 
 pub returns-in-Some-clause-refused : goal.returns-in-Some-clause-refused
-returns-in-Some-clause-refused g c = device_named _ _ (g.V.Vault.fetch_faults c.args.vault.now) (g.V.Vault.fetch_faults c.args.vault.now) (script_of c.in-Ok.whole) c.in-Some.line c.in-Ok.ensures.script (sym c.in-Some.ensures)
+returns-in-Some-clause-refused g c = device_named _ _ _ _ (script_of c.in-Ok.whole) c.in-Some.line c.refused.result c.in-Ok.ensures.stays c.in-Ok.ensures.script (sym c.in-Some.ensures) c.refused.ensures
 
 pub returns-in-None-clause-opened : goal.returns-in-None-clause-opened
 returns-in-None-clause-opened g c =
@@ -24,6 +24,6 @@ returns-in-None-clause-opened g c =
 pub returns-in-None-clause-refused : goal.returns-in-None-clause-refused
 returns-in-None-clause-refused g c =
     IfErr-weaker c.open_whole.result _ _
-    (λ fault h. programs_named (g.V.Vault.files c.args.vault.now) c.args.script.now (g.V.Vault.fetch_faults c.args.vault.now) _ _ _ (script_of c.in-Ok.whole) fault
+    (λ stop h. programs_named (g.V.Vault.files c.args.vault.now) c.args.script.now (g.V.Vault.fetch_faults c.args.vault.now) _ _ _ (script_of c.in-Ok.whole) stop
     c.read_whole.ensures.kept c.in-Ok.ensures.stays c.in-Ok.ensures.script (sym c.in-None.ensures) h)
     c.open_whole.ensures.refused

@@ -1,12 +1,12 @@
 -- The programs so far, and the next.
-use Rattle.std.proofs.Common.{◌∙◌, ◌≤◌, ℕ, length, map, subst, sym, arith}
+use Rattle.std.proofs.Common.{◌∙◌, ◌≤◌, length, map, subst, sym, arith}
 use Rattle.std.proofs.lemmas.List.{length-map}
 use Rattle.vault_port.specs.Files.{Files}
 use Rattle.std.specs.Prelude.{Option}
 use Rattle.script_reader.specs.Views.{program_of}
 use Rattle.world_hosting.specs.Worlds.{FitsPlan}
 use Rattle.script_command.specs.Playing.{HasChoice}
-use Rattle.script_command.specs.Views.{CountsFor, OpensNext}
+use Rattle.script_command.specs.Views.{OpensNext}
 use Rattle.script_command.proofs.Openings.{all_opened, ended, few_so_far, next_blamed, next_has, none_left, one_more, reached, turned}
 use Rattle.script_command.proofs.programs.open_programs.Goals as goal
 
@@ -47,6 +47,3 @@ returns-clause-opened g c =
 pub open_next-requires-clause-choice : goal.open_next-requires-clause-choice
 open_next-requires-clause-choice g c =
     next_has c.args.way _ HasChoice _ _ _ _ (turned c.args.way _ _ _ _ _ _ c.in-Some.ensures.steps.0 c.loop-text.invariant.so_far) c.requires.choices
-
-pub returns-in-Err-clause-counts : goal.returns-in-Err-clause-counts
-returns-in-Err-clause-counts g c = subst (λ (f : ℕ). CountsFor f (g.V.Vault.fetch_faults c.open_next.new.vault) c.in-Err.fault) c.loop-text.invariant.steady c.in-Err.ensures.counts

@@ -1,10 +1,15 @@
 -- A program over its module, once it keeps the set-up rules.
-use Rattle.std.proofs.Common.{arith}
+use Rattle.std.proofs.Common.{Err, arith, refl, subst, sym}
 use Rattle.std.proofs.lemmas.List.{length-map}
 use Rattle.wa_types.specs.View.{module_of}
 use Rattle.script_reader.specs.Views.{entry_of, program_of}
 use Rattle.script_setup.specs.SetUpRules.{set_up_rules}
-use Rattle.script_command.proofs.Openings.{plans_next, memory_blamed}
+use Rattle.script_model.specs.Script.{breaks}
+use Rattle.script_setup.specs.Views.{Blames}
+use Rattle.script_setup.specs.declared.fault.RuleFault.{RuleFault}
+use Rattle.script_command.specs.Playing.{asks_all}
+use Rattle.script_command.specs.Views.{BlamesLine}
+use Rattle.script_command.proofs.Openings.{plans_next, memory_blamed, rules_asked}
 use Rattle.script_command.proofs.programs.plan_program.Goals as goal
 
 pub set_up_program-requires : goal.set_up_program-requires
@@ -17,3 +22,9 @@ returns-in-Ok-clause-opened c = λ files is.
 
 pub returns-in-Ok-clause-refused : goal.returns-in-Ok-clause-refused
 returns-in-Ok-clause-refused c = memory_blamed (set_up_rules _ (module_of c.args.loaded.valid) (program_of c.args.text)) c.put_program.result c.put_program.ensures.memory
+
+pub returns-clause-refused : goal.returns-clause-refused
+returns-clause-refused c =
+    let broken = subst (λ (f : RuleFault). Blames f (set_up_rules c.asks_all.result (module_of c.args.loaded.valid) (program_of c.args.text))) c.in-Err-Rule.field-0-is c.in-Err-Rule.ensures.made in
+    subst (BlamesLine (set_up_rules (asks_all c.args.way) (module_of c.args.loaded.valid) (program_of c.args.text))) (sym c.refused.ensures)
+    (c.in-Err-Rule.line, c.in-Err-Rule.rule, rules_asked c.asks_all.result (asks_all c.args.way) (module_of c.args.loaded.valid) (program_of c.args.text) (Err (breaks c.in-Err-Rule.line c.in-Err-Rule.rule)) c.asks_all.ensures broken, (refl, refl))

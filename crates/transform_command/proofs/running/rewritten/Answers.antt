@@ -8,7 +8,8 @@ use Rattle.call_graph.specs.Settings.{settings_of}
 use Rattle.transform_command.specs.Manners.{plainly}
 use Rattle.transform_command.specs.Sources.{rewritten_counts}
 use Rattle.transform_command.proofs.Accepted.{strict, none_passes, none_reserved, rewrite_refused, well}
-use Rattle.transform_command.proofs.Files.{told_fault}
+use Rattle.transform_command.specs.SourceRefusals.{IsRefusedUnwritten}
+use Rattle.module_files.proofs.Told.{told_fault}
 use Rattle.transform_command.proofs.running.rewritten.Goals as goal
 
 pub rewrite_module-requires : goal.rewrite_module-requires
@@ -22,9 +23,9 @@ rewrite_fault-requires g c =
 pub returns-clause-refused : goal.returns-clause-refused
 returns-clause-refused g c =
     let h = c.in-Ok.ensures.source in
-    told_fault (plainly (settings_of c.args.settings.now)) (g.V.Vault.files c.args.vault.now) c.args.name.now h.bytes c.rewrite_fault.result h.holds
+    told_fault (IsRefusedUnwritten (plainly (settings_of c.args.settings.now))) (g.V.Vault.files c.args.vault.now) c.args.name.now h.bytes c.rewrite_fault.result h.holds
     (rewrite_refused (settings_of c.args.settings.now) h.bytes (module_of c.in-Ok.valid) c.in-Err-rewrite_module.fault c.rewrite_fault.result h.source c.in-Err-rewrite_module.ensures
-    c.rewrite_fault.ensures.fault)
+    c.rewrite_fault.ensures)
 
 pub returns-in-Ok-rewrite_module-clause-done : goal.returns-in-Ok-rewrite_module-clause-done
 returns-in-Ok-rewrite_module-clause-done g c =

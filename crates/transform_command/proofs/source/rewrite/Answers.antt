@@ -8,8 +8,9 @@ use Rattle.wa_types.specs.Syntax.{Module}
 use Rattle.wa_types.specs.View.{module_of}
 use Rattle.transform_command.specs.Manners.{manner_of}
 use Rattle.transform_command.specs.Sources.{rewritten_counts}
-use Rattle.transform_command.proofs.Accepted.{strict, few_bytes, few_functions, none_passes, emit_refused, well, written_so}
-use Rattle.transform_command.proofs.Files.{told_fault}
+use Rattle.module_files.proofs.Told.{told_fault, told_so}
+use Rattle.transform_command.specs.SourceRefusals.{IsRefusedAs, IsRefusedUnwritten}
+use Rattle.transform_command.proofs.Accepted.{strict, few_bytes, few_functions, none_passes, emit_refused, refused_as, well, written_so}
 use Rattle.transform_command.proofs.source.rewrite.Goals as goal
 
 pub emit-requires-clause-sizes : goal.emit-requires-clause-sizes
@@ -27,7 +28,7 @@ emit-requires-clause-short g c = let h = c.in-Ok.ensures.source in few_bytes h.b
 pub returns-in-Err-emit-clause-refused : goal.returns-in-Err-emit-clause-refused
 returns-in-Err-emit-clause-refused g c =
     let h = c.in-Ok.ensures.source in
-    told_fault (manner_of c.args.settings.now) (g.V.Vault.files c.args.vault.now) c.args.name.now h.bytes c.emit_fault.result h.holds
+    told_fault (IsRefusedAs (manner_of c.args.settings.now)) (g.V.Vault.files c.args.vault.now) c.args.name.now h.bytes c.emit_fault.result h.holds
     (emit_refused (manner_of c.args.settings.now) h.bytes (module_of c.in-Ok.valid) c.in-Err-emit.fault c.emit_fault.result h.source c.in-Err-emit.ensures c.emit_fault.ensures)
 
 pub returns-clause-done : goal.returns-clause-done
@@ -56,4 +57,6 @@ returns-clause-done g c =
     )
 
 pub returns-in-Err-clause-refused : goal.returns-in-Err-clause-refused
-returns-in-Err-clause-refused g c = c.in-Err.ensures.refused (manner_of c.args.settings.now)
+returns-in-Err-clause-refused g c =
+    told_so (IsRefusedUnwritten (manner_of c.args.settings.now)) (IsRefusedAs (manner_of c.args.settings.now)) (g.V.Vault.files c.args.vault.now) c.args.name.now c.in-Err.fault
+    (refused_as (manner_of c.args.settings.now)) (c.in-Err.ensures.refused (manner_of c.args.settings.now))

@@ -1,14 +1,15 @@
 -- What the two files have to do with the module that was read.
 use Rattle.std.proofs.Common.{subst}
 use Rattle.transform_command.specs.Manners.{manner_of}
-use Rattle.transform_command.specs.SourceRefusals.{cause_of, IsToldFault}
+use Rattle.module_files.specs.Faults.{IsToldFault}
+use Rattle.transform_command.specs.SourceRefusals.{IsRefusedAs}
 use Rattle.transform_command.proofs.Transforming.{transformed, cut_short, counted, saved_bytes, refused_for, held}
 use Rattle.transform_command.proofs.transform.transform.Goals as goal
 
 pub returns-in-Err-Refused-clause-refused : goal.returns-in-Err-Refused-clause-refused
 returns-in-Err-Refused-clause-refused g c =
-    let h = subst (IsToldFault (manner_of c.args.settings.now) (g.V.Vault.files c.args.vault.now) c.args.input.now) c.in-Err-Refused.field-0-is c.in-Err-Refused.ensures.refused in
-    refused_for (manner_of c.args.settings.now) c.args.input.now h.0 _ (cause_of c.in-Err-Refused.refusal) h.1 h.2
+    let h = subst (IsToldFault (IsRefusedAs (manner_of c.args.settings.now)) (g.V.Vault.files c.args.vault.now) c.args.input.now) c.in-Err-Refused.field-0-is c.in-Err-Refused.ensures.refused in
+    (h.2.0, refused_for (manner_of c.args.settings.now) c.args.input.now h.0 _ h.2.0 h.1 h.2.1, h.2.2)
 
 pub returns-in-Ok-save_whole-clause-done : goal.returns-in-Ok-save_whole-clause-done
 returns-in-Ok-save_whole-clause-done g c =
