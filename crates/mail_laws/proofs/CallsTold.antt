@@ -87,17 +87,17 @@ small_on : (xs ys : List Settled) → AreSmall xs → AreSmall ys → AreSmall (
 small_on [] ys h k = k
 small_on (x ∷ xs) ys h k = (h.0, small_on xs ys h.1 k)
 
-keeps_first : (will : ℕ → ℕ) (xs ys : List Settled) → KeepsPromises will (xs ++ ys) → KeepsPromises will xs
+pub keeps_first : (will : ℕ → ℕ) (xs ys : List Settled) → KeepsPromises will (xs ++ ys) → KeepsPromises will xs
 keeps_first will [] ys h = tt
 keeps_first will (x ∷ xs) ys h = (h.0, keeps_first will xs ys h.1)
 
-keeps_last : (will : ℕ → ℕ) (xs ys : List Settled) → KeepsPromises will (xs ++ ys) → KeepsPromises will ys
+pub keeps_last : (will : ℕ → ℕ) (xs ys : List Settled) → KeepsPromises will (xs ++ ys) → KeepsPromises will ys
 keeps_last will [] ys h = h
 keeps_last will (x ∷ xs) ys h = keeps_last will xs ys h.1
 
 -- ---- mailboxes
 
-at_promised : (will : ℕ → ℕ) (g : Mailbox → Mailbox) (f : Box → Box) (name : List ℕ) (bs : List Box) → ((b : Box) → g (promised will b) ≡ promised will (f b))
+pub at_promised : (will : ℕ → ℕ) (g : Mailbox → Mailbox) (f : Box → Box) (name : List ℕ) (bs : List Box) → ((b : Box) → g (promised will b) ≡ promised will (f b))
     → at_box g name (map (promised will) bs) ≡ map (promised will) (at_told f name bs)
 at_promised will g f name [] same = refl
 at_promised will g f name (b ∷ bs) same = by (same_name b.name name) (at_promised will g f name bs same)
@@ -107,7 +107,7 @@ at_promised will g f name (b ∷ bs) same = by (same_name b.name name) (at_promi
     by true on = ap (λ (x : Mailbox). x ∷ map (promised will) bs) (same b)
     by false on = ap (λ (l : List Mailbox). promised will b ∷ l) on
 
-find_promised : (will : ℕ → ℕ) (name : List ℕ) (bs : List Box) → find (is_box name) (map (promised will) bs) ≡ option_map (promised will) (find (has_name name) bs)
+pub find_promised : (will : ℕ → ℕ) (name : List ℕ) (bs : List Box) → find (is_box name) (map (promised will) bs) ≡ option_map (promised will) (find (has_name name) bs)
 find_promised will name [] = refl
 find_promised will name (b ∷ bs) = by (same_name b.name name) (find_promised will name bs)
   where

@@ -14,6 +14,7 @@ pub mod Mailings
 pub mod Making
 pub mod Outcomes
 pub mod MemoryGrows
+pub mod MetSoFar
 pub mod Parked
 pub mod Parts
 pub mod Pauses

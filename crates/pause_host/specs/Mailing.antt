@@ -1,5 +1,5 @@
 -- What answers the new calls of a program where there are mailboxes, as far as it is known when they are made.
-use Rattle.std.specs.Prelude.{◌≡◌, ◌≤◌, ◌<◌, ◌^◌, ℕ, List, [], ◌∷◌, ◌++◌, Option, Some, None, slice_get}
+use Rattle.std.specs.Prelude.{◌⊎◌, ◌≡◌, ◌≤◌, ◌<◌, ◌^◌, ℕ, List, [], ◌∷◌, ◌++◌, Option, Some, None, slice_get}
 use Rattle.std.specs.List.{find, position}
 use Rattle.std.specs.Option.{option_map, unwrap_or}
 use Rattle.wa_types.specs.declared.values.Value.{Value}
@@ -14,8 +14,8 @@ use Rattle.world_model.specs.World.{Device, MeetsDevice, MeetsLine, Program, bas
 use Rattle.device_port.specs.declared.devices.Devices.{Devices}
 use Rattle.device_port.specs.Listed.{of_all}
 use Rattle.mailbox_device.specs.Mail.{Box, Mail, at_box, is_box, received, receiver, sent}
-use Rattle.mail_laws.specs.Mailboxes.{mailed}
-use Rattle.mail_laws.specs.Told.{Amid, Await}
+use Rattle.mail_laws.specs.Mailboxes.{CallsMeet, mailed}
+use Rattle.mail_laws.specs.Told.{Amid, Await, KeepsPromises, midst_by, pending}
 use Rattle.host_laws.specs.Answering.{outcome_of}
 use Rattle.host_laws.specs.Places.{Lands, Place, stands, has_ended, nowhere}
 use Rattle.host_laws.specs.Supplies.{Counts, Supply, bound_to}
@@ -122,3 +122,24 @@ abbrev pub TellsMailFrom : Program → Place → (left : ℕ) → MailSupply →
 TellsMailFrom w (stands ready h) left old x used new to = TellsMail w ready h left old x used new to
 TellsMailFrom w (has_ended how) left old x used new to = ⊥
 TellsMailFrom w nowhere left old x used new to = ⊥
+
+-- ---- what a world meets
+
+-- What the calls of a turn have met is what a world has them meet, whatever is promised to those that wait: outcomes that are known, and
+-- that of the receive that wasn't answered, for which a zero stands until then.
+pub record MetSoFar (w : Program) (program : ℕ) (turn : List Note) (begun : MailSupply) (os : List Outcome) (now : MailSupply) : Type 0 where
+  pub known : List Outcome
+  pub outcomes : os ≡ known ++ pending 0 now.amid.receive
+  pub calls : (will : ℕ → ℕ) → ((j : ℕ) → will j < 2 ^ 32) → KeepsPromises will now.amid.settled
+      → CallsMeet w turn (known ++ pending (will program) now.amid.receive) begun.lines (midst_by will program begun.amid) [] now.lines (midst_by will program now.amid)
+
+-- So it is before the first call,
+abbrev pub NothingMetYet : Type 0
+NothingMetYet = (w : Program) (program : ℕ) (begun : MailSupply) → begun.amid.receive ≡ None → MetSoFar w program [] begun [] begun
+
+-- and with each note told since, as long as no call comes behind a receive that wasn't answered.
+abbrev pub OneMoreMet : Type 0
+OneMoreMet =
+    (w : Program) (program : ℕ) (turn : List Note) (begun : MailSupply) (os : List Outcome) (now : MailSupply) (x : Note) (met : List Outcome) (new : MailSupply)
+    → MetSoFar w program turn begun os now → TakesMail w (call_in x.event) now met new → (call_in x.event ≡ None) ⊎ (now.amid.receive ≡ None)
+    → MetSoFar w program (turn ++ x ∷ []) begun (os ++ met) new

@@ -16,6 +16,9 @@
 //! device of that name, and any other by the program's next answer line; a call that is made again after a pause asks nobody. Between
 //! its events other programs may use the same devices; of a program alone, without devices, more is known (`FollowsAlone`).
 //!
+//! Where there are mailboxes an import may be bound to one in place of a device. A receive at an empty mailbox parks the program: its
+//! pause is told as parking, and it goes on once it is settled with a value, or ends there (`specs/Mailing.antt`).
+//!
 //! What is to be written of a paused program `parts` and `memory` give: its stack stands in its memory. `thaw` puts one back: it tells
 //! what the world's program tells that begins at that pause (`specs/Thawing.antt`).
 //!
@@ -27,8 +30,9 @@
 //! - `unwinding`, `rewinding`: both halves of a pause.
 //! - `plan`, `entries`, `bindings`, `setting`: what a program is given, and what the host has to know of its module all along.
 //! - `running`, `events`: what comes of each stage, which is an event or a new call of an import. Of these `told` alone, which comes last, is lent
-//!   devices: it asks for the call's outcome.
+//!   devices and mailboxes: it asks for the call's outcome.
 //! - `asking`, `program`: what answers a call, and `Program`.
+//! - `laws`: what calls have met is what worlds with mailboxes have them meet.
 //! - `globals`, `thawing`: which globals a program can be put back with, and a program that is put back.
 #![tactic(auto)]
 
@@ -40,6 +44,7 @@ mod events;
 mod exports;
 mod faults;
 mod globals;
+mod laws;
 mod memory;
 mod plan;
 mod program;
@@ -53,6 +58,7 @@ mod unwinding;
 pub use bindings::unbound;
 pub use faults::ThawFault;
 pub use host_setup::{Entry, SetupFault};
+pub use laws::calls_meet_as_in_worlds;
 pub use plan::Plan;
 pub use program::Program;
 pub use snapshot_store::PausedParts;
