@@ -36,6 +36,7 @@ pub mod StrandWorlds
 pub mod Stretches
 pub mod Switch
 pub mod Threads
+pub mod ThreeToTheEnd
 pub mod TurnEnds
 pub mod Turns
 pub mod TurnsTold

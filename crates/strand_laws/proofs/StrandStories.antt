@@ -5,6 +5,7 @@ use Rattle.std.specs.Prelude.{drop, map, slice_get}
 use Rattle.std.specs.List.{AllZip, sum_by}
 use Rattle.std.proofs.lemmas.List.{length-map}
 use Rattle.std.proofs.lemmas.List.Elements.{All-cons, All-head, All-nil, All-tail}
+use Rattle.std.proofs.lemmas.Bool.{cases_lt}
 use Rattle.wa_types.specs.Base.{Base}
 use Rattle.wa_types.specs.Bounds.{Bound, activation_bound}
 use Rattle.wa_types.specs.Frames.{Suspended}
@@ -15,17 +16,17 @@ use Rattle.wa_model.specs.Behaves.{IsPrefix, PauseNumbered, pause_stacks}
 use Rattle.wa_model.specs.Blocking.{all_left, begun, between, no_store, note}
 use Rattle.wa_model.specs.Instantiation.{opening}
 use Rattle.wa_model.specs.Machine.{Ran, run}
-use Rattle.wa_model.specs.Outside.{ended}
+use Rattle.wa_model.specs.Outside.{Event, ended}
 use Rattle.wa_model.specs.Plan.{Outcome}
 use Rattle.wa_model.specs.Protocol.{Held, free, held_begun, store_held}
 use Rattle.wa_model.specs.Store.{Store}
 use Rattle.run_theory.proofs.Runs.{prefix_of_longer, prefix_on}
 use Rattle.strand_laws.proofs.AllByTurns.{all_go_by_turns}
-use Rattle.strand_laws.proofs.EndTogether.{run_over, run_split}
+use Rattle.strand_laws.proofs.EndTogether.{last_over, run_over, run_split}
 use Rattle.strand_laws.proofs.WovenEnds.{ends_are_told, goes_now}
-use Rattle.strand_laws.specs.StrandOriginals.{SameStrandMoment, StrandStoriesOfOriginals, StrandsMayRun, StrandsOrderly, StrandsStandIn}
+use Rattle.strand_laws.specs.StrandOriginals.{BoundedStrandsEnd, SameStrandMoment, StrandStoriesOfOriginals, StrandsMayRun, StrandsOrderly, StrandsStandIn}
 use Rattle.strand_laws.specs.StrandWorld.{HeldStrands, IsStrandCertain, StrandOriginal, StrandsInWorld, StrungStrands, spent, strand_next, strand_unless_over, whole}
-use Rattle.strand_laws.specs.Strands.{AgreesNow, BlockingStrands, ProtocolStrands, StrandEvent, StrandMoment, StrandProgram, StrandsBehaveOn, StrandsCompared, StrandsNumbered, Strung}
+use Rattle.strand_laws.specs.Strands.{AgreesNow, BlockingStrands, ProtocolStrands, StrandEvent, StrandMoment, StrandProgram, StrandsBehaveOn, StrandsCompared, StrandsNumbered, Strung, IsCalmNow}
 use Rattle.strand_laws.specs.Strands.{at_cost, at_note, beginnings, events_told, first_outcomes, held_loom, on, plan_of, strand_at, strung_from, strung_loom, with_source}
 use Rattle.strand_laws.specs.Weaving.{Dues, GoesByTurns, HasTurn, all_due, dues_behind, is_there, now_behind}
 use Rattle.strand_laws.specs.Woven.{Loom, Ready, Told, Woven, notes_told, standing_now, weave, woven, woven_on}
@@ -93,7 +94,7 @@ told_long : (ts : List Told) → length (events_told ts) ≡ length ts
 told_long ts = length-map ts (λ (t : Told). record { strand = t.strand; event = t.note.event })
 
 -- a run's bound is at least its cost
-bound_above : (m : Module) (c n : ℕ) (pauses : List (List Suspended)) → Bound m c pauses ≤ n → c ≤ n
+pub bound_above : (m : Module) (c n : ℕ) (pauses : List (List Suspended)) → Bound m c pauses ≤ n → c ≤ n
 bound_above m c n pauses le = above (sum_by (λ (stack : List Suspended). 256 + sum_by (activation_bound m) stack) pauses) le
   where
     above : (more : ℕ) → 256 * (c + 1) + more ≤ n → c ≤ n
@@ -108,14 +109,16 @@ module _ {S : Type 0} (loom : Loom S) (r : Ran (Woven S) Told) where
       prefix_on (Woven S) Told (weave loom) r.events (run (weave loom) n r.last).events (run (weave loom) (n + more) r.last).events (prefix_of_longer (Woven S) Told (weave loom) n n more r.last le)
 
   -- but not where no strand goes on
-  pub stays_over : (n more : ℕ) → standing_now (woven_on loom n r).last ≡ None → length (woven_on loom (n + more) r).events ≡ length (woven_on loom n r).events
+  pub stays_over : (n more : ℕ) → standing_now (woven_on loom n r).last ≡ None → (woven_on loom (n + more) r).events ≡ (woven_on loom n r).events
   stays_over n more h =
       let u = run (weave loom) n r.last in
       let sp = run_split (Woven S) Told (weave loom) goes_now (ends_are_told loom) n more r.last in
       let over = run_over (Woven S) Told (weave loom) goes_now (ends_are_told loom) ((n - sp.0) + more) u.last (ap is_there h) in
-      let same : (run (weave loom) (n + more) r.last).events ≡ u.events =
-      ap (λ (q : Ran (Woven S) Told). q.events) sp.2 ∙ ap (λ (q : Ran (Woven S) Told). u.events ++ q.events) over ∙ append-nil u.events in
-      ap (λ (es : List Told). length (r.events ++ es)) same
+      ap (λ (es : List Told). r.events ++ es)
+      (ap (λ (q : Ran (Woven S) Told). q.events) sp.2 ∙ ap (λ (q : Ran (Woven S) Told). u.events ++ q.events) over ∙ append-nil u.events)
+
+  pub still_over : (n more : ℕ) → standing_now (woven_on loom n r).last ≡ None → standing_now (woven_on loom (n + more) r).last ≡ None
+  still_over n more h = ap standing_now (last_over (Woven S) Told (weave loom) goes_now (ends_are_told loom) n more r.last (ap is_there h)) ∙ h
 
 -- ---- whose turn it is
 
@@ -151,6 +154,35 @@ same_turn now v (a ∷ xs) (b ∷ ys) x y e h k = same_turn (now_behind b.strand
     Behind : StrandEvent → Type 0
     Behind c = GoesByTurns (now_behind c.strand c.event) (dues_behind c.strand c.event v) (xs ++ x ∷ [])
 
+-- ---- an original's strands
+
+-- where they stand behind instantiation
+abbrev strung_first : Settings → StrandProgram → List (List Outcome) → Ran (Woven Strung) Told
+strung_first s g oss =
+    let r = strung_from (begun (Base g.source).start (all_left (plan_of g (strand_at g 0)) (first_outcomes oss)) (opening (Base g.source) g.globals)) in
+    woven (strung_loom s g) true 0 0 r.events r.last (map (λ (t : Strung). record { due = 0; at = Some t }) (r.last ∷ beginnings (λ l. on (between no_store l)) g (drop 1 g.strands) (drop 1 oss)))
+
+-- those that have ended touch nothing more
+pub compared_on : (s : Settings) (g : StrandProgram) (oss : List (List Outcome)) (n most : ℕ) → n ≤ most → standing_now (BlockingStrands s g oss n).last ≡ None → StrandsCompared s g oss n
+    → StrandsCompared s g oss most
+compared_on s g oss n most le over cmp = record {
+  some = cmp.some;
+  fits = cmp.fits;
+  listed = cmp.listed;
+  apart = cmp.apart;
+  wide = cmp.wide;
+  outcomes = cmp.outcomes;
+  pokes = cmp.pokes;
+  untouched = λ j lt. ⊎_elim (λ less. cmp.untouched j less) (λ ge. behind j ge) (cases_lt j n);
+}
+  where
+    behind : (j : ℕ) → n ≤ j → IsCalmNow g.strands (standing_now (BlockingStrands s g oss j).last)
+    behind j ge =
+        let z : n + (j - n) ≡ j = omega (arith, ge) in
+        let none : standing_now (BlockingStrands s g oss j).last ≡ None =
+        subst (λ i. standing_now (BlockingStrands s g oss i).last ≡ None) z (still_over (strung_loom s g) (strung_first s g oss) n (j - n) over) in
+        subst (IsCalmNow g.strands) (sym none) tt
+
 -- ---- one story
 
 -- what such a program tells within so many steps
@@ -184,9 +216,7 @@ module _ (o : StrandOriginal) (w : StrandsInWorld) (oss : List (List Outcome)) (
   P k = (ProtocolStrands (with_source g p) oss k).events
 
   abbrev first_e : Ran (Woven Strung) Told
-  first_e =
-      let r = strung_from (begun (Base g.source).start (all_left (plan_of g (strand_at g 0)) (first_outcomes oss)) (opening (Base g.source) g.globals)) in
-      woven (strung_loom s g) true 0 0 r.events r.last (map (λ (t : Strung). record { due = 0; at = Some t }) (r.last ∷ beginnings (λ l. on (between no_store l)) g (drop 1 g.strands) (drop 1 oss)))
+  first_e = strung_first s g oss
 
   abbrev first_p : Ran (Woven Held) Told
   first_p =
@@ -249,6 +279,15 @@ module _ (o : StrandOriginal) (w : StrandsInWorld) (oss : List (List Outcome)) (
   beside : AllZip Same (take (length (P N)) (E N)) (P N)
   beside = zip_of Same (E N) (P N) (λ i y e. let h = here.notes i y e in (h.0, h.1, record { strand = h.2.strand; event = h.2.event; ends = h.2.ends }))
 
+  zip_events : (xs ys : List Told) → AllZip Same xs ys → events_told xs ≡ events_told ys
+  zip_events [] [] h = refl
+  zip_events [] (y ∷ ys) h = absurd h
+  zip_events (x ∷ xs) [] h = absurd h
+  zip_events (x ∷ xs) (y ∷ ys) h =
+      ap (λ k. record { strand = k; event = x.note.event } ∷ events_told xs) h.0.strand
+      ∙ ap (λ (e : Event). record { strand = y.strand; event = e } ∷ events_told xs) h.0.event
+      ∙ ap (λ (es : List StrandEvent). record { strand = y.strand; event = y.note.event } ∷ es) (zip_events xs ys h.1)
+
   no_more : length (P N) ≤ length (E N)
   no_more =
       let a = zip_long Same (take (length (P N)) (E N)) (P N) beside in
@@ -265,7 +304,7 @@ module _ (o : StrandOriginal) (w : StrandsInWorld) (oss : List (List Outcome)) (
       let bound : ℕ = Bound g.source N (pause_stacks (notes_told (E N))) in
       let high : N ≤ bound = bound_above g.source N bound (pause_stacks (notes_told (E N))) (omega arith) in
       let z : N + (bound - N) ≡ bound = omega (arith, high) in
-      let still : length (P bound) ≡ length (P N) = subst (λ j. length (P j) ≡ length (P N)) z (stays_over (held_loom (with_source g p)) first_p N (bound - N) over) in
+      let still : length (P bound) ≡ length (P N) = subst (λ j. length (P j) ≡ length (P N)) z (ap length (stays_over (held_loom (with_source g p)) first_p N (bound - N) over)) in
       let reach = prefix_long (events_told (E N)) (events_told (P bound)) here.reaches in
       let le_e = told_long (E N) in
       let le_p = told_long (P bound) in
@@ -334,15 +373,39 @@ module _ (o : StrandOriginal) (w : StrandsInWorld) (oss : List (List Outcome)) (
     cut : IsStory ts
     cut = let mo = here.moments in subst IsStory (sym tells) (cut_at mo.0 mo.1 mo.2 mo.3 mo.4)
 
+  told_so : (ts : List Told) → HeldStrands w oss ts → ts ≡ told_within (with_source g p) oss N
+  told_so ts h = h ∙ ap (λ (q : StrandProgram). told_within q oss w.steps) st.program ∙ ap (told_within (with_source g p) oss) st.steps
+
   pub story_of_original : (ts : List Told) → HeldStrands w oss ts → IsStory ts
   story_of_original ts h = by_standing (standing_now (ProtocolStrands (with_source g p) oss N).last) refl
     where
       told : ts ≡ told_within (with_source g p) oss N
-      told = h ∙ ap (λ (q : StrandProgram). told_within q oss w.steps) st.program ∙ ap (told_within (with_source g p) oss) st.steps
+      told = told_so ts h
 
       by_standing : (r : Option (Ready Held)) → standing_now (ProtocolStrands (with_source g p) oss N).last ≡ r → IsStory ts
       by_standing None e = subst IsStory (sym (told ∙ ap (λ (q : Option (Ready Held)). P N ++ strand_unless_over N q) e)) (at_end e)
       by_standing (Some r) e = cut ts r e (told ∙ ap (λ (q : Option (Ready Held)). P N ++ strand_unless_over N q) e)
 
+  -- ---- where the bound is within the steps
+
+  whole_within : (c : ℕ) → standing_now (BlockingStrands s g oss c).last ≡ None → Bound g.source c (pause_stacks (notes_told (E c))) ≤ N → (ts : List Told) → HeldStrands w oss ts
+      → events_told ts ≡ events_told (E c)
+  whole_within c over le ts h =
+      let few : c ≤ N = bound_above g.source c N (pause_stacks (notes_told (E c))) le in
+      let z : c + (N - c) ≡ N = omega (arith, few) in
+      let same : E N ≡ E c = subst (λ j. E j ≡ E c) z (stays_over (strung_loom s g) first_e c (N - c) over) in
+      let over_e : standing_now (BlockingStrands s g oss N).last ≡ None =
+      subst (λ j. standing_now (BlockingStrands s g oss j).last ≡ None) z (still_over (strung_loom s g) first_e c (N - c) over) in
+      let long = reached c le in
+      let short = no_more in
+      let sizes = ap length same in
+      let all : length (P N) ≡ length (E N) = omega (arith, long, short, sizes) in
+      let over_p : standing_now (ProtocolStrands (with_source g p) oss N).last ≡ None = here.over_too over_e (sym all) in
+      ap events_told (told_so ts h ∙ ap (λ (q : Option (Ready Held)). P N ++ strand_unless_over N q) over_p ∙ append-nil (P N))
+      ∙ sym (zip_events (E N) (P N) (subst (λ (xs : List Told). AllZip Same xs (P N)) (take_all (E N) (length (P N)) all) beside)) ∙ ap events_told same
+
 pub stories_of_originals : StrandStoriesOfOriginals
 stories_of_originals o w oss ts st may ord h = story_of_original o w oss st may ord ts h
+
+pub bounded_strands_end : BoundedStrandsEnd
+bounded_strands_end o w oss ts c st may ord h over le = whole_within o w oss st may ord c over le ts h

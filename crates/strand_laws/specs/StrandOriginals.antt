@@ -1,21 +1,23 @@
 -- Worlds of strands over rewritten modules, and the same worlds of their originals, whose imports block.
-use Rattle.std.specs.Prelude.{◌≡◌, List, map, Bool, false, All}
+use Rattle.std.specs.Prelude.{◌≡◌, ◌≤◌, ℕ, List, map, Bool, false, All}
 use Rattle.std.specs.List.{AllZip}
+use Rattle.wa_types.specs.Bounds.{Bound}
 use Rattle.wa_types.specs.Syntax.{Module}
 use Rattle.wa_types.specs.Pausing.{Settings, TellsMayPause}
 use Rattle.wa_types.specs.Runtime.{global_space}
 use Rattle.wa_types.specs.Sizes.{WellFormed}
 use Rattle.wa_model.specs.declared.answers.Area.{Area}
 use Rattle.wa_model.specs.declared.answers.Detach.{Detach}
+use Rattle.wa_model.specs.Behaves.{pause_stacks}
 use Rattle.wa_model.specs.Blocking.{overlap}
 use Rattle.wa_model.specs.Plan.{Outcome}
 use Rattle.world_model.specs.World.{Actor, Device, Look}
 use Rattle.run_theory.specs.Quiet.{FreeOfNames}
 use Rattle.emitted_form.specs.EmittedAs.{EmittedAs}
 use Rattle.emitted_form.specs.PolicyLaws.{CanBeEmitted}
-use Rattle.strand_laws.specs.Strands.{SameOff, StrandProgram, StrandsBehave, StrandsCompared, StrandsNumbered, areas_of, with_source}
-use Rattle.strand_laws.specs.StrandWorld.{BlockingStrandWorld, HeldStrands, ProtocolStrandWorld, Staged, StrandLine, StrandOriginal, StrandsInWorld, StrungStrands}
-use Rattle.strand_laws.specs.Woven.{Told}
+use Rattle.strand_laws.specs.Strands.{BlockingStrands, SameOff, StrandProgram, StrandsBehave, StrandsCompared, StrandsNumbered, areas_of, events_told, with_source}
+use Rattle.strand_laws.specs.StrandWorld.{BlockingStrandWorld, HeldStrands, IsFinished, ProtocolStrandWorld, Staged, StrandLine, StrandOriginal, StrandsInWorld, StrungStrands}
+use Rattle.strand_laws.specs.Woven.{Told, notes_told}
 
 -- ---- the programs
 
@@ -73,6 +75,14 @@ abbrev pub StrandStoriesOfOriginals : Type 0
 StrandStoriesOfOriginals =
     (o : StrandOriginal) (w : StrandsInWorld) (oss : List (List Outcome)) (ts : List Told) → StrandsStandIn o w → StrandsMayRun o → StrandsOrderly o oss → HeldStrands w oss ts
     → (us : List Told) × StrungStrands o.settings o.program oss us × AllZip (SameStrandMoment o.program.program) us ts
+
+-- Where the original's strands end within a cost of c, whose bound is within the steps, those of the rewritten module tell all its events.
+abbrev pub BoundedStrandsEnd : Type 0
+BoundedStrandsEnd =
+    (o : StrandOriginal) (w : StrandsInWorld) (oss : List (List Outcome)) (ts : List Told) (c : ℕ) → StrandsStandIn o w → StrandsMayRun o → StrandsOrderly o oss → HeldStrands w oss ts
+    → IsFinished (BlockingStrands o.settings o.program.program oss c).last
+    → Bound o.program.program.source c (pause_stacks (notes_told (BlockingStrands o.settings o.program.program oss c).events)) ≤ o.program.steps
+    → events_told ts ≡ events_told (BlockingStrands o.settings o.program.program oss c).events
 
 -- the outcomes of a program's strands in a world
 abbrev pub outcomes_in : Staged → List (List Outcome)

@@ -8,15 +8,19 @@ use Rattle.wa_types.specs.declared.operators.NumOp.TheVariants.{I32Add, I64DivU,
 use Rattle.wa_types.specs.declared.syntax.ImportKind.TheVariants as K
 use Rattle.wa_types.specs.declared.syntax.Space.TheVariants as Sp
 use Rattle.wa_types.specs.Syntax.{Basic, Code, Func, FuncType, Module, basic, call, const, done, drop, global_get, global_set, local_get, local_set, memory_grow, num, plain}
-use Rattle.wa_types.specs.Pausing.{save_all}
+use Rattle.wa_types.specs.Bounds.{Bound}
+use Rattle.wa_types.specs.Pausing.{Policy, save_all}
 use Rattle.wa_model.specs.declared.answers.Said.TheVariants as S
 use Rattle.wa_model.specs.declared.events.End.TheVariants.{Done, Trapped, UnwindTrap}
+use Rattle.wa_model.specs.Behaves.{pause_stacks}
 use Rattle.wa_model.specs.Outside.{AnswerLine, Event, answered, called, ended, paused, returned, shown}
 use Rattle.wa_model.specs.Plan.{Outcome}
-use Rattle.image_laws.specs.Example.{saving}
-use Rattle.strand_laws.specs.Example.{of_strand, said_after}
-use Rattle.strand_laws.specs.Strands.{BlockingStrands, Strand, StrandEvent, StrandProgram, events_told}
-use Rattle.strand_laws.specs.StrandWorld.{BlockingStrandWorld, StrandLine, StrandOriginal}
+use Rattle.emitted_form.specs.EmittedAs.{EmittedAs}
+use Rattle.image_laws.specs.Example.{may_pause, sample, saving}
+use Rattle.strand_laws.specs.Example.{notes_of_three, of_strand, outcomes_of_three, said_after, three_strands, told_of_three, used_by}
+use Rattle.strand_laws.specs.Strands.{BlockingStrands, Strand, StrandEvent, StrandProgram, events_told, with_source}
+use Rattle.strand_laws.specs.StrandWorld.{BlockingStrandWorld, HeldStrands, StrandLine, StrandOriginal, StrandsInWorld}
+use Rattle.strand_laws.specs.Woven.{Told, notes_told}
 
 -- ---- two modules
 
@@ -183,3 +187,16 @@ pub record StrandReadings : Type 0 where
   pub shared : told_by_two summing_strands (gives_number 10 2) (gives_number 100 1) ≡ told_of_summing 110
   pub globals_of_pause : told_by_two summing_strands (gives_number 10 2) (gives_number 100 1) ≡ told_of_summing 10 → ⊥
   pub trap_for_all : told_by_two dividing_strands (gives_number 0 1) (gives_number 1000 2) ≡ told_up_to_trap → ⊥
+
+-- ---- strands of what is emitted
+
+-- the three strands over this module, with as many steps as the bound of a cost of 40
+abbrev pub three_over : Policy → Module → StrandsInWorld
+three_over policy q =
+    record { program = with_source three_strands q; steps = Bound sample 40 (pause_stacks (notes_told (notes_of_three policy))); answers = [] ∷ [] ∷ [] ∷ []; binds = None ∷ []; looks = [] }
+
+-- Over whatever is emitted of the small module they tell all that its own strands tell, to their ends.
+abbrev pub ThreeTellAll : Type 0
+ThreeTellAll =
+    (policy : Policy) (q : Module) (ts : List Told) → EmittedAs sample (saving policy) may_pause q → HeldStrands (three_over policy q) outcomes_of_three ts
+    → events_told ts ≡ told_of_three (used_by policy)

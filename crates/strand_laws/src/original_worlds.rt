@@ -1,6 +1,7 @@
 //! Worlds of strands beside those of their originals. Each is the contract of a function that does nothing.
 
-ghost use Rattle.strand_laws.specs.StrandOriginals.{ComparedAreOrderly, EmittedAreRewritten, StrandStoriesOfOriginals, StrandWorldsOfOriginals};
+ghost use Rattle.strand_laws.specs.StrandOriginals.{BoundedStrandsEnd, ComparedAreOrderly, EmittedAreRewritten, StrandStoriesOfOriginals, StrandWorldsOfOriginals};
+ghost use Rattle.strand_laws.specs.WorldExample.{ThreeTellAll};
 
 /// What is emitted has its original's imports, and its strands behave like the original's: it may stand in for it in a world of strands.
 pub fn emitted_strands_stand_in()
@@ -22,4 +23,16 @@ pub fn strand_stories_are_of_originals()
 /// their originals.
 pub fn strand_worlds_are_of_originals()
     ensures { StrandWorldsOfOriginals }
+{}
+
+/// Where the original's strands end, and the bound of what that costs is within the steps, those of the rewritten module tell all their
+/// events: their steps aren't spent.
+pub fn bounded_strands_end()
+    ensures { BoundedStrandsEnd }
+{}
+
+/// Three strands over whatever is emitted of a small module, with as many steps as the bound has, tell in a world all that the module's own
+/// strands tell, each to its end.
+pub fn three_strands_end()
+    ensures { ThreeTellAll }
 {}
