@@ -32,6 +32,30 @@ rows_on [] ws' [] vs' [] acts' [] bs' h k = k
 rows_on (w ∷ ws) ws' (v ∷ vs) vs' (a ∷ acts) acts' (b ∷ bs) bs' h k = (h.0, rows_on ws ws' vs vs' acts acts' bs bs' h.1 k)
 rows_on _ ws' _ vs' _ acts' _ bs' h k = absurd h
 
+-- the other way
+alike_back : (looks : List Look) (xs ys : List Note) → Alike looks xs ys → Alike looks ys xs
+alike_back looks [] [] h = tt
+alike_back looks [] (y ∷ ys) h = absurd h
+alike_back looks (x ∷ xs) [] h = absurd h
+alike_back looks (x ∷ xs) (y ∷ ys) h = (record { event = sym (h.0).event; shows = sym (h.0).shows }, alike_back looks xs ys h.1)
+
+pub rows_turned : (ws vs : List Program) (acts bs : List Actor) → Rows ws vs acts bs → Rows vs ws bs acts
+rows_turned [] [] [] [] h = tt
+rows_turned (w ∷ ws) (v ∷ vs) (a ∷ acts) (b ∷ bs) h =
+    let r = h.0 in
+    let calls = r.calls in (
+      record {
+        calls = record { imports = sym calls.imports; binds = sym calls.binds };
+        looks = sym r.looks;
+        due = sym r.due;
+        answers = sym r.answers;
+        outcomes = sym r.outcomes;
+        notes = subst (λ (ls : List Look). Alike ls a.notes b.notes) r.looks (alike_back w.looks b.notes a.notes r.notes);
+      },
+      rows_turned ws vs acts bs h.1,
+    )
+rows_turned _ _ _ _ h = absurd h
+
 -- the row of a number
 abbrev Found : List Program → List Actor → ℕ → Actor → Program → Type 0
 Found vs bs i a w = (v : Program) × (b : Actor) × (slice_get vs i ≡ Some v) × (slice_get bs i ≡ Some b) × Row w v a b

@@ -24,7 +24,7 @@ use Rattle.run_theory.proofs.Runs.{prefix_of_longer, prefix_on}
 use Rattle.strand_laws.proofs.AllByTurns.{all_go_by_turns}
 use Rattle.strand_laws.proofs.EndTogether.{last_over, run_over, run_split}
 use Rattle.strand_laws.proofs.WovenEnds.{ends_are_told, goes_now}
-use Rattle.strand_laws.specs.StrandOriginals.{BoundedStrandsEnd, SameStrandMoment, StrandStoriesOfOriginals, StrandsMayRun, StrandsOrderly, StrandsStandIn}
+use Rattle.strand_laws.specs.StrandOriginals.{BoundedStrandsEnd, SameStrandMoment, StrandsBounded, StrandStoriesOfOriginals, StrandsMayRun, StrandsOrderly, StrandsStandIn}
 use Rattle.strand_laws.specs.StrandWorld.{HeldStrands, IsStrandCertain, StrandOriginal, StrandsInWorld, StrungStrands, spent, strand_next, strand_unless_over, whole}
 use Rattle.strand_laws.specs.Strands.{AgreesNow, BlockingStrands, ProtocolStrands, StrandEvent, StrandMoment, StrandProgram, StrandsBehaveOn, StrandsCompared, StrandsNumbered, Strung, IsCalmNow}
 use Rattle.strand_laws.specs.Strands.{at_cost, at_note, beginnings, events_told, first_outcomes, held_loom, on, plan_of, strand_at, strung_from, strung_loom, with_source}
@@ -89,6 +89,11 @@ none_there : {X : Type 0} (xs : List X) (n : ℕ) → slice_get xs n ≡ None �
 none_there [] n e = omega arith
 none_there (x ∷ xs) zero e = let no_way : ⊥ = cc in absurd no_way
 none_there (x ∷ xs) (suc n) e = let h = none_there xs n e in omega (arith, h)
+
+nothing_there : {X : Type 0} (xs : List X) (n : ℕ) → length xs ≤ n → slice_get xs n ≡ None
+nothing_there [] n le = refl
+nothing_there (x ∷ xs) zero le = let no_way : ⊥ = omega (arith, le) in absurd no_way
+nothing_there (x ∷ xs) (suc n) le = nothing_there xs n (omega (arith, le))
 
 told_long : (ts : List Told) → length (events_told ts) ≡ length ts
 told_long ts = length-map ts (λ (t : Told). record { strand = t.strand; event = t.note.event })
@@ -388,24 +393,65 @@ module _ (o : StrandOriginal) (w : StrandsInWorld) (oss : List (List Outcome)) (
 
   -- ---- where the bound is within the steps
 
-  whole_within : (c : ℕ) → standing_now (BlockingStrands s g oss c).last ≡ None → Bound g.source c (pause_stacks (notes_told (E c))) ≤ N → (ts : List Told) → HeldStrands w oss ts
-      → events_told ts ≡ events_told (E c)
-  whole_within c over le ts h =
-      let few : c ≤ N = bound_above g.source c N (pause_stacks (notes_told (E c))) le in
-      let z : c + (N - c) ≡ N = omega (arith, few) in
-      let same : E N ≡ E c = subst (λ j. E j ≡ E c) z (stays_over (strung_loom s g) first_e c (N - c) over) in
-      let over_e : standing_now (BlockingStrands s g oss N).last ≡ None =
-      subst (λ j. standing_now (BlockingStrands s g oss j).last ≡ None) z (still_over (strung_loom s g) first_e c (N - c) over) in
-      let long = reached c le in
-      let short = no_more in
-      let sizes = ap length same in
-      let all : length (P N) ≡ length (E N) = omega (arith, long, short, sizes) in
-      let over_p : standing_now (ProtocolStrands (with_source g p) oss N).last ≡ None = here.over_too over_e (sym all) in
-      ap events_told (told_so ts h ∙ ap (λ (q : Option (Ready Held)). P N ++ strand_unless_over N q) over_p ∙ append-nil (P N))
-      ∙ sym (zip_events (E N) (P N) (subst (λ (xs : List Told). AllZip Same xs (P N)) (take_all (E N) (length (P N)) all) beside)) ∙ ap events_told same
+  module _ (bounded : StrandsBounded o oss) where
+    few : bounded.cost + (N - bounded.cost) ≡ N
+    few =
+        let le : bounded.cost ≤ N = bound_above g.source bounded.cost N (pause_stacks (notes_told (E bounded.cost))) bounded.within in
+        omega (arith, le)
+
+    same_e : E N ≡ E bounded.cost
+    same_e = subst (λ j. E j ≡ E bounded.cost) few (stays_over (strung_loom s g) first_e bounded.cost (N - bounded.cost) bounded.over)
+
+    over_e : standing_now (BlockingStrands s g oss N).last ≡ None
+    over_e = subst (λ j. standing_now (BlockingStrands s g oss j).last ≡ None) few (still_over (strung_loom s g) first_e bounded.cost (N - bounded.cost) bounded.over)
+
+    as_long : length (P N) ≡ length (E N)
+    as_long =
+        let long = reached bounded.cost bounded.within in
+        let short = no_more in
+        let sizes = ap length same_e in
+        omega (arith, long, short, sizes)
+
+    over_p : standing_now (ProtocolStrands (with_source g p) oss N).last ≡ None
+    over_p = here.over_too over_e (sym as_long)
+
+    all_beside : AllZip Same (E N) (P N)
+    all_beside = subst (λ (xs : List Told). AllZip Same xs (P N)) (take_all (E N) (length (P N)) as_long) beside
+
+    all_told : (ts : List Told) → HeldStrands w oss ts → ts ≡ P N
+    all_told ts h = told_so ts h ∙ ap (λ (q : Option (Ready Held)). P N ++ strand_unless_over N q) over_p ∙ append-nil (P N)
+
+    whole_within : (ts : List Told) → HeldStrands w oss ts → events_told ts ≡ events_told (E bounded.cost)
+    whole_within ts h = ap events_told (all_told ts h) ∙ sym (zip_events (E N) (P N) all_beside) ∙ ap events_told same_e
+
+    -- none is spent
+    all_of_original : (us : List Told) → StrungStrands s o.program oss us → us ≡ E N
+    all_of_original _ (whole us e over) = e
+    all_of_original _ (spent j k before us at is few next uncertain moment e) = absurd (⊎_elim certain past (cases_lt j (length (E N))))
+      where
+        certain : j < length (E N) → ⊥
+        certain lt =
+            let sizes = ap length same_e in
+            let there : j < length (E bounded.cost) = omega (arith, lt, sizes) in
+            uncertain (bounded.cost, there, bounded.within)
+
+        past : length (E N) ≤ j → ⊥
+        past le =
+            let none : strand_next (slice_get (E N) j) (standing_now (BlockingStrands s g oss N).last) ≡ None =
+            ap (λ (t : Option Told). strand_next t (standing_now (BlockingStrands s g oss N).last)) (nothing_there (E N) j le) ∙ ap (strand_next None) over_e in
+            let bad : Some k ≡ None = sym next ∙ none in
+            cc
+
+    pub story_held : (us : List Told) → StrungStrands s o.program oss us → (ts : List Told) × HeldStrands w oss ts × AllZip Same us ts
+    story_held us h =
+        let ts : List Told = told_within w.program oss w.steps in (
+          ts,
+          refl,
+          subst (λ (xs : List Told). AllZip Same xs ts) (sym (all_of_original us h)) (subst (λ (ys : List Told). AllZip Same (E N) ys) (sym (all_told ts refl)) all_beside),
+        )
 
 pub stories_of_originals : StrandStoriesOfOriginals
 stories_of_originals o w oss ts st may ord h = story_of_original o w oss st may ord ts h
 
 pub bounded_strands_end : BoundedStrandsEnd
-bounded_strands_end o w oss ts c st may ord h over le = whole_within o w oss st may ord c over le ts h
+bounded_strands_end o w oss ts st may ord h bounded = whole_within o w oss st may ord bounded ts h

@@ -9,12 +9,12 @@ use Rattle.wa_model.specs.Plan.{Outcome}
 use Rattle.world_model.specs.World.{Actor, Look, Program}
 use Rattle.world_laws.proofs.Shows.{Alike}
 use Rattle.emitted_form.proofs.PolicyCases.{rewritten_as}
-use Rattle.strand_laws.proofs.ActorRows.{Rows, events_beside, over_beside, rows_on}
+use Rattle.strand_laws.proofs.ActorRows.{Rows, events_beside, over_beside, rows_on, rows_turned}
 use Rattle.strand_laws.proofs.Emitted.{strands_of_emitted}
 use Rattle.strand_laws.proofs.Numbered.{pauses_at_numbers}
 use Rattle.strand_laws.proofs.StrandShows.{last_same, notes_print}
-use Rattle.strand_laws.proofs.StrandStories.{stories_of_originals}
-use Rattle.strand_laws.specs.StrandOriginals.{ComparedAreOrderly, EmittedAreRewritten, SameStrandMoment, StrandWorldsOfOriginals, StrandsMayRun, StrandsOrderly, StrandsStandIn, outcomes_in}
+use Rattle.strand_laws.proofs.StrandStories.{stories_of_originals, story_held}
+use Rattle.strand_laws.specs.StrandOriginals.{BoundedWorldsAreHeld, ComparedAreOrderly, EmittedAreRewritten, SameStrandMoment, StrandWorldsOfOriginals, StrandsBounded, StrandsMayRun, StrandsOrderly, StrandsStandIn, outcomes_in}
 use Rattle.strand_laws.specs.StrandWorld.{HeldStrands, PokesApart, Staged, StartsStrands, StartsStrung, StrandLine, StrandOriginal, StrandsInWorld, joined, last_strand, looks_if, notes_of}
 use Rattle.strand_laws.specs.StrandWorld.{strand_actors, strand_in, strand_line, strand_lines, strand_programs}
 use Rattle.strand_laws.specs.Strands.{Strand, StrandProgram}
@@ -29,6 +29,10 @@ outcomes_are w ts i (os ∷ oss) = ap (λ (z : List (List Outcome)). os ∷ z) (
 -- the original's strands at their start, beside those of the program in its place
 abbrev Starting : StrandOriginal → Staged → Type 0
 Starting o x = (y : Staged) × StartsStrung o y × Rows x.programs y.programs x.actors y.actors
+
+-- and the other way
+abbrev Held : StrandOriginal → StrandsInWorld → Staged → Type 0
+Held o w y = (x : Staged) × StartsStrands HeldStrands w x × Rows y.programs x.programs y.actors x.actors
 
 module _ (o : StrandOriginal) (w : StrandsInWorld) (st : StrandsStandIn o w) (may : StrandsMayRun o) where
   abbrev Same : Told → Told → Type 0
@@ -82,6 +86,33 @@ module _ (o : StrandOriginal) (w : StrandsInWorld) (st : StrandsStandIn o w) (ma
             (rows_of us ts story.2 (last_strand us) 0 o.program.program.strands oss wide)),
       )
 
+  -- the strands of the program in its place, where the original's are bounded
+  starting_held : (y : Staged) → StartsStrung o y → StrandsOrderly o (outcomes_in y) → StrandsBounded o (outcomes_in y) → Held o w y
+  starting_held y h ord bounded =
+      let oss : List (List Outcome) = h.outcomes in
+      let us : List Told = h.told in
+      let met : outcomes_in y ≡ oss = ap (λ (xs : List Actor). map (λ (a : Actor). a.outcomes) xs) h.actors_are ∙ outcomes_are o.program us 0 oss in
+      let story = story_held o w oss st may (subst (StrandsOrderly o) met ord) (subst (StrandsBounded o) met bounded) us h.tells in
+      let ts : List Told = story.0 in
+      let strands : w.program.strands ≡ o.program.program.strands = ap (λ (q : StrandProgram). q.strands) st.program in
+      let last : last_strand us ≡ last_strand ts = last_same o.program.program us ts story.2 in
+      let x : Staged = record { programs = strand_programs w (last_strand us) 0 o.program.program.strands; actors = strand_actors w ts 0 oss } in (
+        x,
+        record {
+          outcomes = oss;
+          told = ts;
+          wide = h.wide ∙ ap length (sym strands);
+          pokes = subst (λ (ss : List Strand). PokesApart ss 0 oss) (sym strands) h.pokes;
+          tells = story.1;
+          programs_are = ap (λ n. strand_programs w n 0 o.program.program.strands) last ∙ ap (strand_programs w (last_strand ts) 0) (sym strands);
+          actors_are = refl;
+        },
+        subst (λ (ps : List Program). Rows ps x.programs y.actors x.actors) (sym h.programs_are)
+            (subst (λ (acts : List Actor). Rows (strand_programs o.program (last_strand us) 0 o.program.program.strands) x.programs acts x.actors) (sym h.actors_are)
+            (rows_turned x.programs (strand_programs o.program (last_strand us) 0 o.program.program.strands) x.actors (strand_actors o.program us 0 oss)
+            (rows_of us ts story.2 (last_strand us) 0 o.program.program.strands oss h.wide))),
+      )
+
 -- ---- of all programs
 
 abbrev programs_in : List Staged → List Program
@@ -105,6 +136,24 @@ all_starting [] (w ∷ ws) xs st may h ord = absurd st
 all_starting (o ∷ os) [] xs st may h ord = absurd st
 all_starting [] [] (x ∷ xs) st may h ord = absurd h
 all_starting (o ∷ os) (w ∷ ws) [] st may h ord = absurd h
+
+abbrev Bounded : StrandOriginal → Staged → Type 0
+Bounded o y = StrandsOrderly o (outcomes_in y) × StrandsBounded o (outcomes_in y)
+
+all_held : (os : List StrandOriginal) (ws : List StrandsInWorld) (ys : List Staged) → AllZip StrandsStandIn os ws → All StrandsMayRun os → AllZip StartsStrung os ys → AllZip Bounded os ys
+    → (xs : List Staged) × AllZip (StartsStrands HeldStrands) ws xs × Rows (programs_in ys) (programs_in xs) (actors_in ys) (actors_in xs)
+all_held [] [] [] st may h ord = ([], tt, tt)
+all_held (o ∷ os) (w ∷ ws) (y ∷ ys) st may h ord =
+    let one = starting_held o w st.0 (All-head StrandsMayRun o os may) y h.0 ord.0.0 ord.0.1 in
+    let on = all_held os ws ys st.1 (All-tail StrandsMayRun o os may) h.1 ord.1 in (
+      one.0 ∷ on.0,
+      (one.1, on.1),
+      rows_on y.programs (programs_in ys) one.0.programs (programs_in on.0) y.actors (actors_in ys) one.0.actors (actors_in on.0) one.2 on.2,
+    )
+all_held [] (w ∷ ws) ys st may h ord = absurd st
+all_held (o ∷ os) [] ys st may h ord = absurd st
+all_held [] [] (y ∷ ys) st may h ord = absurd h
+all_held (o ∷ os) (w ∷ ws) [] st may h ord = absurd h
 
 -- ---- lines
 
@@ -154,6 +203,23 @@ worlds_of_originals os ws detaches ds ds' lines st may world ord =
         events = e.1;
         over = over_beside (programs_in world.staged) (programs_in s.0) r.last e.0 e.2 r.over;
         made = r.made ∙ lines_same (programs_of ws) (programs_of (of_originals os)) r.flat (sizes_same os ws st);
+      };
+    }
+
+pub bounded_worlds_held : BoundedWorldsAreHeld
+bounded_worlds_held os ws detaches ds ds' lines st may world ord =
+    let r = world.runs in
+    let s = all_held os ws world.staged st may world.starts ord in
+    let e = events_beside (programs_in world.staged) (programs_in s.0) detaches 1 (actors_in world.staged) (actors_in s.0) ds r.flat r.last ds' s.2 r.events in
+    record {
+      staged = s.0;
+      starts = s.1;
+      runs = record {
+        flat = r.flat;
+        last = e.0;
+        events = e.1;
+        over = over_beside (programs_in world.staged) (programs_in s.0) r.last e.0 e.2 r.over;
+        made = r.made ∙ sym (lines_same (programs_of ws) (programs_of (of_originals os)) r.flat (sizes_same os ws st));
       };
     }
 

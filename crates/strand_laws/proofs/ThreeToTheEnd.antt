@@ -38,10 +38,10 @@ pub three_tell_all : ThreeTellAll
 three_tell_all policy q ts em held =
     let bound : ℕ = Bound sample 40 (pause_stacks (notes_told (notes_of_three policy))) in
     let enough : 40 ≤ bound = bound_above sample 40 bound (pause_stacks (notes_told (notes_of_three policy))) (same_least bound) in
-    bounded_strands_end (three_there policy) (three_over policy q) outcomes_of_three ts 40
+    bounded_strands_end (three_there policy) (three_over policy q) outcomes_of_three ts
     (record { rewritten = emitted_are_rewritten sample (saving policy) may_pause q (can_there policy) free_there em; program = refl; steps = refl; answers = refl; binds = refl; looks = refl })
     (record { well_formed = formed_there; looks = All-nil (LooksOff (areas_of three_strands)) })
     (compared_are_orderly (three_there policy) outcomes_of_three may_pause (can_there policy).tells refl
     (compared_on (saving policy) three_strands outcomes_of_three 40 bound enough (ended_there policy) (compared_there policy)))
-    held (ended_there policy) (same_least bound)
+    held (record { cost = 40; over = ended_there policy; within = same_least bound })
     ∙ turns_there policy

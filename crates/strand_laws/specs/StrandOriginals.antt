@@ -76,13 +76,17 @@ StrandStoriesOfOriginals =
     (o : StrandOriginal) (w : StrandsInWorld) (oss : List (List Outcome)) (ts : List Told) → StrandsStandIn o w → StrandsMayRun o → StrandsOrderly o oss → HeldStrands w oss ts
     → (us : List Told) × StrungStrands o.settings o.program oss us × AllZip (SameStrandMoment o.program.program) us ts
 
--- Where the original's strands end within a cost of c, whose bound is within the steps, those of the rewritten module tell all its events.
+-- The original's strands end within a cost whose bound is within the steps.
+pub record StrandsBounded (o : StrandOriginal) (oss : List (List Outcome)) : Type 0 where
+  pub cost : ℕ
+  pub over : IsFinished (BlockingStrands o.settings o.program.program oss cost).last
+  pub within : Bound o.program.program.source cost (pause_stacks (notes_told (BlockingStrands o.settings o.program.program oss cost).events)) ≤ o.program.steps
+
+-- Then those of the rewritten module tell all their events.
 abbrev pub BoundedStrandsEnd : Type 0
 BoundedStrandsEnd =
-    (o : StrandOriginal) (w : StrandsInWorld) (oss : List (List Outcome)) (ts : List Told) (c : ℕ) → StrandsStandIn o w → StrandsMayRun o → StrandsOrderly o oss → HeldStrands w oss ts
-    → IsFinished (BlockingStrands o.settings o.program.program oss c).last
-    → Bound o.program.program.source c (pause_stacks (notes_told (BlockingStrands o.settings o.program.program oss c).events)) ≤ o.program.steps
-    → events_told ts ≡ events_told (BlockingStrands o.settings o.program.program oss c).events
+    (o : StrandOriginal) (w : StrandsInWorld) (oss : List (List Outcome)) (ts : List Told) → StrandsStandIn o w → StrandsMayRun o → StrandsOrderly o oss → HeldStrands w oss ts
+    → (b : StrandsBounded o oss) → events_told ts ≡ events_told (BlockingStrands o.settings o.program.program oss b.cost).events
 
 -- the outcomes of a program's strands in a world
 abbrev pub outcomes_in : Staged → List (List Outcome)
@@ -95,3 +99,10 @@ StrandWorldsOfOriginals =
     (originals : List StrandOriginal) (programs : List StrandsInWorld) (detaches : List Detach) (ds ds' : List Device) (lines : List StrandLine)
     → AllZip StrandsStandIn originals programs → All StrandsMayRun originals → (world : ProtocolStrandWorld programs detaches ds lines ds')
     → AllZip (λ (o : StrandOriginal) (x : Staged). StrandsOrderly o (outcomes_in x)) originals world.staged → BlockingStrandWorld originals detaches ds lines ds'
+
+-- And the other way, where each original's strands are bounded so: a run of the blocking world is one of the protocol world.
+abbrev pub BoundedWorldsAreHeld : Type 0
+BoundedWorldsAreHeld =
+    (originals : List StrandOriginal) (programs : List StrandsInWorld) (detaches : List Detach) (ds ds' : List Device) (lines : List StrandLine)
+    → AllZip StrandsStandIn originals programs → All StrandsMayRun originals → (world : BlockingStrandWorld originals detaches ds lines ds')
+    → AllZip (λ (o : StrandOriginal) (x : Staged). StrandsOrderly o (outcomes_in x) × StrandsBounded o (outcomes_in x)) originals world.staged → ProtocolStrandWorld programs detaches ds lines ds'

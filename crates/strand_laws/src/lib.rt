@@ -30,8 +30,9 @@ mod world_strands;
 pub use emitted_strands::{strand_pauses_at_numbers, strands_of_emitted, three_strands_take_turns};
 pub use one_strand::{one_strand_is_expected, one_strand_runs_as_its_plan};
 pub use original_worlds::{
-    bounded_strands_end, compared_strands_are_orderly, emitted_strands_stand_in,
-    strand_stories_are_of_originals, strand_worlds_are_of_originals, three_strands_end,
+    bounded_strands_end, bounded_worlds_are_held, compared_strands_are_orderly,
+    emitted_strands_stand_in, strand_stories_are_of_originals, strand_worlds_are_of_originals,
+    three_strands_end,
 };
 pub use world_strands::{
     held_programs_tell_one_run, narrow_area_ends_the_program, strands_go_by_turns,

@@ -1,6 +1,6 @@
 //! Worlds of strands beside those of their originals. Each is the contract of a function that does nothing.
 
-ghost use Rattle.strand_laws.specs.StrandOriginals.{BoundedStrandsEnd, ComparedAreOrderly, EmittedAreRewritten, StrandStoriesOfOriginals, StrandWorldsOfOriginals};
+ghost use Rattle.strand_laws.specs.StrandOriginals.{BoundedStrandsEnd, BoundedWorldsAreHeld, ComparedAreOrderly, EmittedAreRewritten, StrandStoriesOfOriginals, StrandWorldsOfOriginals};
 ghost use Rattle.strand_laws.specs.WorldExample.{ThreeTellAll};
 
 /// What is emitted has its original's imports, and its strands behave like the original's: it may stand in for it in a world of strands.
@@ -29,6 +29,12 @@ pub fn strand_worlds_are_of_originals()
 /// events: their steps aren't spent.
 pub fn bounded_strands_end()
     ensures { BoundedStrandsEnd }
+{}
+
+/// Where that is so of each original, a run of the blocking world of strands has the lines and devices of a run of the protocol world over
+/// the rewritten modules.
+pub fn bounded_worlds_are_held()
+    ensures { BoundedWorldsAreHeld }
 {}
 
 /// Three strands over whatever is emitted of a small module, with as many steps as the bound has, tell in a world all that the module's own
