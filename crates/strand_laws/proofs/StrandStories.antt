@@ -167,7 +167,16 @@ strung_first s g oss =
     let r = strung_from (begun (Base g.source).start (all_left (plan_of g (strand_at g 0)) (first_outcomes oss)) (opening (Base g.source) g.globals)) in
     woven (strung_loom s g) true 0 0 r.events r.last (map (λ (t : Strung). record { due = 0; at = Some t }) (r.last ∷ beginnings (λ l. on (between no_store l)) g (drop 1 g.strands) (drop 1 oss)))
 
--- those that have ended touch nothing more
+-- those that have ended make nothing more
+pub ended_on : (s : Settings) (g : StrandProgram) (oss : List (List Outcome)) (n most : ℕ) → n ≤ most → standing_now (BlockingStrands s g oss n).last ≡ None
+    → ((BlockingStrands s g oss n).events ≡ (BlockingStrands s g oss most).events) × (standing_now (BlockingStrands s g oss most).last ≡ None)
+ended_on s g oss n most le over =
+    let z : n + (most - n) ≡ most = omega (arith, le) in (
+      subst (λ i. (BlockingStrands s g oss n).events ≡ (BlockingStrands s g oss i).events) z (sym (stays_over (strung_loom s g) (strung_first s g oss) n (most - n) over)),
+      subst (λ i. standing_now (BlockingStrands s g oss i).last ≡ None) z (still_over (strung_loom s g) (strung_first s g oss) n (most - n) over),
+    )
+
+-- and touch nothing more
 pub compared_on : (s : Settings) (g : StrandProgram) (oss : List (List Outcome)) (n most : ℕ) → n ≤ most → standing_now (BlockingStrands s g oss n).last ≡ None → StrandsCompared s g oss n
     → StrandsCompared s g oss most
 compared_on s g oss n most le over cmp = record {
@@ -182,11 +191,7 @@ compared_on s g oss n most le over cmp = record {
 }
   where
     behind : (j : ℕ) → n ≤ j → IsCalmNow g.strands (standing_now (BlockingStrands s g oss j).last)
-    behind j ge =
-        let z : n + (j - n) ≡ j = omega (arith, ge) in
-        let none : standing_now (BlockingStrands s g oss j).last ≡ None =
-        subst (λ i. standing_now (BlockingStrands s g oss i).last ≡ None) z (still_over (strung_loom s g) (strung_first s g oss) n (j - n) over) in
-        subst (IsCalmNow g.strands) (sym none) tt
+    behind j ge = subst (IsCalmNow g.strands) (sym (ended_on s g oss n j ge over).1) tt
 
 -- ---- one story
 

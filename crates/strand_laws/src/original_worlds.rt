@@ -1,7 +1,7 @@
 //! Worlds of strands beside those of their originals. Each is the contract of a function that does nothing.
 
 ghost use Rattle.strand_laws.specs.StrandOriginals.{BoundedStrandsEnd, BoundedWorldsAreHeld, ComparedAreOrderly, EmittedAreRewritten, StrandStoriesOfOriginals, StrandWorldsOfOriginals};
-ghost use Rattle.strand_laws.specs.WorldExample.{ThreeTellAll};
+ghost use Rattle.strand_laws.specs.WorldExample.{EmittedTellsItsLines, ThreeTellAll};
 
 /// What is emitted has its original's imports, and its strands behave like the original's: it may stand in for it in a world of strands.
 pub fn emitted_strands_stand_in()
@@ -41,4 +41,10 @@ pub fn bounded_worlds_are_held()
 /// strands tell, each to its end.
 pub fn three_strands_end()
     ensures { ThreeTellAll }
+{}
+
+/// So the protocol world of these strands has a run, whose lines are those of the original's world, to the end: their ticks, and what each
+/// strand tells.
+pub fn emitted_world_has_its_lines()
+    ensures { EmittedTellsItsLines }
 {}
