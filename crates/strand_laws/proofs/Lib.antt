@@ -1,3 +1,4 @@
+pub mod ActorRows
 pub mod AllByTurns
 pub mod Apart
 pub mod Beginnings
@@ -8,6 +9,7 @@ pub mod Compared
 pub mod EachWorld
 pub mod Emitted
 pub mod Endings
+pub mod EndTogether
 pub mod EndsThere
 pub mod Hanging
 pub mod InStep
@@ -28,9 +30,13 @@ pub mod StartFirst
 pub mod Stores
 pub mod StrandLines
 pub mod StrandModules
+pub mod StrandShows
+pub mod StrandStories
+pub mod StrandWorlds
 pub mod Stretches
 pub mod Switch
 pub mod Threads
+pub mod ThreeToTheEnd
 pub mod TurnEnds
 pub mod Turns
 pub mod TurnsTold
@@ -39,4 +45,5 @@ pub mod Waking
 pub mod Weaving
 pub mod WholeRuns
 pub mod WorldTurns
+pub mod WovenEnds
 pub mod WovenRuns

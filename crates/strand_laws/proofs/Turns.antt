@@ -31,7 +31,7 @@ use Rattle.strand_laws.specs.Strands.{AreApart, BlockingStrands, IsCalmAt, IsCal
 use Rattle.strand_laws.specs.Strands.{StrandsUntouched, Strung, events_told, on, outcomes_at, plan_of, strand_at, waits}
 use Rattle.strand_laws.specs.Woven.{Ready, standing_now}
 
-turns_there : (policy : Policy) → events_told (notes_of_three policy) ≡ told_of_three (used_by policy)
+pub turns_there : (policy : Policy) → events_told (notes_of_three policy) ≡ told_of_three (used_by policy)
 unfolding Base pruned points call_points live behind_calls depth_of results_in calls_of
 turns_there save_all = refl
 turns_there save_live = refl
@@ -166,7 +166,7 @@ answered_1 = said_after 3 (S.Value (Some (V.I32 1)))
 abbrev trapped : List Outcome
 trapped = said_after 4 S.Trap
 
-compared_there : (policy : Policy) → StrandsCompared (saving policy) three_strands outcomes_of_three 40
+pub compared_there : (policy : Policy) → StrandsCompared (saving policy) three_strands outcomes_of_three 40
 compared_there policy = record {
   some = omega arith;
   fits = all_fit;

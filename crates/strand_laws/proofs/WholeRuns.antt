@@ -1,6 +1,6 @@
 -- Whole runs of strands, from a joint simulation that begins.
 use Rattle.headline.proofs.ToldMoves.{dear_of}
-use Rattle.std.proofs.Common.{All, Bool, List, None, Option, Some, [], ap, arith, refl, subst, suc, sym, true, zero, ℕ, ◌⊎◌, ◌+◌, ◌++◌, ◌-◌, ◌<◌, ◌∙◌, ◌∷◌, ◌≡◌, ◌≤◌, append-nil, append_assoc}
+use Rattle.std.proofs.Common.{All, Bool, List, length, None, Option, Some, [], ap, arith, refl, subst, suc, sym, true, zero, ℕ, ◌⊎◌, ◌+◌, ◌++◌, ◌-◌, ◌<◌, ◌∙◌, ◌∷◌, ◌≡◌, ◌≤◌, append-nil, append_assoc, length-append}
 use Rattle.std.specs.Prelude.{map, slice_get, drop}
 use Rattle.run_theory.proofs.Moments.{Moment, at_event, at_state, moment}
 use Rattle.run_theory.proofs.Follow.{Alike as AllAlike, Begins, alike_on, back, begins_on, forth}
@@ -19,7 +19,11 @@ use Rattle.wa_types.specs.Pausing.{Settings}
 use Rattle.wa_types.specs.Syntax.{Module}
 use Rattle.strand_laws.proofs.Between.{OutAll}
 use Rattle.strand_laws.proofs.Clear.{CalmAll}
+use Rattle.strand_laws.proofs.EndTogether.{alike_long, over_back, over_forth}
 use Rattle.strand_laws.proofs.InStep as I
+use Rattle.strand_laws.proofs.WovenEnds.{ends_are_told, goes_now, none_now}
+use Rattle.strand_laws.proofs.WovenRuns.{stands, stands_none}
+use Rattle.strand_laws.specs.Weaving.{is_there}
 use Rattle.strand_laws.specs.Strands.{AgreesNow, BlockingStrands, IsCalmNow, ProtocolStrands, SameTold, Strand, StrandEvent, StrandMoment, at_cost, at_note, store_woven, strung_store, StrandProgram, StrandsBehaveOn, StrandsNumbered, StrandsUntouched, Strung, beginnings, events_told, first_outcomes, held_loom, on, plan_of, strand_at, strung_from, strung_loom, waits, with_source, told_on}
 use Rattle.strand_laws.specs.Woven.{Loom, Ready, Told as ToldBy, Woven, notes_told, standing_now, weave, woven}
 use Rattle.strand_laws.proofs.EachWorld.{Calm, Family, FamilyLaws, Go, Hang, Kept, Near, Ok, Q, Sm, dear}
@@ -162,6 +166,8 @@ module _ (family : Family) (laws : FamilyLaws family) where
   strands_behave oss n bg untouched nums =
       record {
         moments = moments;
+        over = over;
+        over_too = over_too;
         reaches = reaches;
         notes = λ i y e. by_right i y (BlockingStrands st (with_source g m) oss n).events
             (right_of (BlockingStrands st (with_source g m) oss n).events (ProtocolStrands (with_source g written) oss n).events begun_so i y e);
@@ -250,6 +256,32 @@ module _ (family : Family) (laws : FamilyLaws family) where
           (I.SeesW A B (Go family laws) (Hang family laws) (Near family laws) (Sm family laws) (Kept family laws) (Q family laws) (Calm family laws) (Ok family laws) (dear family laws))
           (I.SeesAt A B (Go family laws) (Hang family laws) (Near family laws) (Sm family laws) (Kept family laws) (Q family laws) (Calm family laws) (Ok family laws) (dear family laws))
           (strands_in_step family laws) dear_on2 no_cost n n n 0 (start_a oss).last (start_b oss).last joint (omega arith) (omega arith))
+
+      agree : (k spare : ℕ) (v : Woven Strung) (w : Woven Held) → Joined k spare v w → goes_now v ≡ goes_now w
+      agree k spare v w r = by_pre v w r.0
+        where
+          by_pre : (v : Woven Strung) (w : Woven Held) → I.Pre A B (Go family laws) (Hang family laws) (Near family laws) (Sm family laws) (Kept family laws) (Q family laws) (Calm family laws) (Ok family laws) (dear family laws) spare v w → goes_now v ≡ goes_now w
+          by_pre _ _ (I.pre_goes i due c g a b ts us lt same few go hung) =
+              ap is_there (stands A i due a ts lt) ∙ sym (ap is_there (stands B i due b us (let z : i < length us = omega (arith, lt, same) in z)))
+          by_pre _ _ (I.pre_over ts us) = ap is_there (stands_none A ts) ∙ sym (ap is_there (stands_none B us))
+
+      over : standing_now (ProtocolStrands (with_source g written) oss n).last ≡ None → standing_now (BlockingStrands st (with_source g m) oss n).last ≡ None
+      over h =
+          none_now (standing_now (run (weave A) n (start_a oss).last).last)
+          (over_back (Woven Strung) (Woven Held) ToldBy ToldBy (weave A) (weave B) Joined QTNow (I.dear_told A B (Go family laws) (Hang family laws) (Near family laws) (Sm family laws) (Kept family laws) (Q family laws) (Calm family laws) (Ok family laws) (dear family laws)) (I.SeesW A B (Go family laws) (Hang family laws) (Near family laws) (Sm family laws) (Kept family laws) (Q family laws) (Calm family laws) (Ok family laws) (dear family laws)) (I.SeesAt A B (Go family laws) (Hang family laws) (Near family laws) (Sm family laws) (Kept family laws) (Q family laws) (Calm family laws) (Ok family laws) (dear family laws)) (strands_in_step family laws)
+          goes_now goes_now (ends_are_told A) (ends_are_told B) agree n n n 0 (start_a oss).last (start_b oss).last joint (omega arith) (omega arith) (ap is_there h))
+
+      over_too : standing_now (BlockingStrands st (with_source g m) oss n).last ≡ None
+          → length (BlockingStrands st (with_source g m) oss n).events ≡ length (ProtocolStrands (with_source g written) oss n).events
+          → standing_now (ProtocolStrands (with_source g written) oss n).last ≡ None
+      over_too h same =
+          let first : length (start_a oss).events ≡ length (start_b oss).events = alike_long QTNow (start_a oss).events (start_b oss).events bg.alike in
+          let la = length-append (start_a oss).events (run (weave A) n (start_a oss).last).events in
+          let lb = length-append (start_b oss).events (run (weave B) n (start_b oss).last).events in
+          let rest : length (run (weave A) n (start_a oss).last).events ≡ length (run (weave B) n (start_b oss).last).events = omega (arith, first, la, lb, same) in
+          none_now (standing_now (run (weave B) n (start_b oss).last).last)
+          (over_forth (Woven Strung) (Woven Held) ToldBy ToldBy (weave A) (weave B) Joined QTNow (I.dear_told A B (Go family laws) (Hang family laws) (Near family laws) (Sm family laws) (Kept family laws) (Q family laws) (Calm family laws) (Ok family laws) (dear family laws)) (I.SeesW A B (Go family laws) (Hang family laws) (Near family laws) (Sm family laws) (Kept family laws) (Q family laws) (Calm family laws) (Ok family laws) (dear family laws)) (I.SeesAt A B (Go family laws) (Hang family laws) (Near family laws) (Sm family laws) (Kept family laws) (Q family laws) (Calm family laws) (Ok family laws) (dear family laws)) (strands_in_step family laws)
+          goes_now goes_now (ends_are_told A) (ends_are_told B) agree n n n 0 (start_a oss).last (start_b oss).last joint (omega arith) (ap is_there h) rest)
 
       reaches : IsPrefix (events_told (BlockingStrands st (with_source g m) oss n).events)
           (events_told (ProtocolStrands (with_source g written) oss (Bound m n (Rattle.wa_model.specs.Behaves.pause_stacks (notes_told (BlockingStrands st (with_source g m) oss n).events)))).events)

@@ -1,6 +1,7 @@
 pub mod EmittedStrands
 pub mod Example
 pub mod OneStrand
+pub mod StrandOriginals
 pub mod StrandWorld
 pub mod Strands
 pub mod Weaving

@@ -293,6 +293,10 @@ pub record StrandsBehaveOn (s : Settings) (which : List Bool) (g : StrandProgram
   -- between events too the store is one that the original has at a moment with the same events
   pub moments : (ts : List Told) × (at : Store) × StrandMoment s g oss n ts at × (events_told ts ≡ events_told (ProtocolStrands (with_source g p) oss n).events)
       × AgreesNow g at (standing_now (ProtocolStrands (with_source g p) oss n).last)
+  -- where no strand goes on any more, none of the original's does; and where none of those does, and these have told as many notes, none of these does
+  pub over : standing_now (ProtocolStrands (with_source g p) oss n).last ≡ None → standing_now (BlockingStrands s g oss n).last ≡ None
+  pub over_too : standing_now (BlockingStrands s g oss n).last ≡ None → length (BlockingStrands s g oss n).events ≡ length (ProtocolStrands (with_source g p) oss n).events
+      → standing_now (ProtocolStrands (with_source g p) oss n).last ≡ None
 
 -- For every program with strands, outcomes and cost at which each pause finds its activations at numbered calls, they do.
 abbrev pub StrandsBehave : Module → Settings → Module → Type 0

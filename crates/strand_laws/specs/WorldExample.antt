@@ -1,22 +1,27 @@
--- Scripts of two strands, and the lines of their worlds.
+-- Scripts of strands, and the lines of their worlds.
 use Rattle.std.specs.Prelude.{◌≡◌, ℕ, List, [], ◌∷◌, Some, None, true, codes}
 use Rattle.wa_types.specs.declared.values.ValType.TheVariants.{I32, I64}
 use Rattle.wa_types.specs.declared.values.Value.{Value}
 use Rattle.wa_types.specs.declared.values.Value.TheVariants as V
-use Rattle.wa_types.specs.declared.values.Trap.TheVariants.{DivideByZero, Unreachable}
+use Rattle.wa_types.specs.declared.values.Trap.TheVariants.{DivideByZero, Import, Unreachable}
 use Rattle.wa_types.specs.declared.operators.NumOp.TheVariants.{I32Add, I64DivU, I64ExtendI32U}
 use Rattle.wa_types.specs.declared.syntax.ImportKind.TheVariants as K
 use Rattle.wa_types.specs.declared.syntax.Space.TheVariants as Sp
 use Rattle.wa_types.specs.Syntax.{Basic, Code, Func, FuncType, Module, basic, call, const, done, drop, global_get, global_set, local_get, local_set, memory_grow, num, plain}
-use Rattle.wa_types.specs.Pausing.{save_all}
+use Rattle.wa_types.specs.Bounds.{Bound}
+use Rattle.wa_types.specs.Pausing.{Policy, save_all, save_live}
+use Rattle.wa_model.specs.declared.answers.Said.{Said}
 use Rattle.wa_model.specs.declared.answers.Said.TheVariants as S
 use Rattle.wa_model.specs.declared.events.End.TheVariants.{Done, Trapped, UnwindTrap}
+use Rattle.wa_model.specs.Behaves.{pause_stacks}
 use Rattle.wa_model.specs.Outside.{AnswerLine, Event, answered, called, ended, paused, returned, shown}
 use Rattle.wa_model.specs.Plan.{Outcome}
-use Rattle.image_laws.specs.Example.{saving}
-use Rattle.strand_laws.specs.Example.{of_strand, said_after}
-use Rattle.strand_laws.specs.Strands.{BlockingStrands, Strand, StrandEvent, StrandProgram, events_told}
-use Rattle.strand_laws.specs.StrandWorld.{BlockingStrandWorld, StrandLine, StrandOriginal}
+use Rattle.emitted_form.specs.EmittedAs.{EmittedAs}
+use Rattle.image_laws.specs.Example.{may_pause, sample, saving}
+use Rattle.strand_laws.specs.Example.{notes_of_three, of_strand, outcomes_of_three, said_after, three_strands, told_of_three, used_by}
+use Rattle.strand_laws.specs.Strands.{BlockingStrands, Strand, StrandEvent, StrandProgram, events_told, with_source}
+use Rattle.strand_laws.specs.StrandWorld.{BlockingStrandWorld, HeldStrands, ProtocolStrandWorld, StrandLine, StrandOriginal, StrandsInWorld}
+use Rattle.strand_laws.specs.Woven.{Told, notes_told}
 
 -- ---- two modules
 
@@ -183,3 +188,38 @@ pub record StrandReadings : Type 0 where
   pub shared : told_by_two summing_strands (gives_number 10 2) (gives_number 100 1) ≡ told_of_summing 110
   pub globals_of_pause : told_by_two summing_strands (gives_number 10 2) (gives_number 100 1) ≡ told_of_summing 10 → ⊥
   pub trap_for_all : told_by_two dividing_strands (gives_number 0 1) (gives_number 1000 2) ≡ told_up_to_trap → ⊥
+
+-- ---- strands of what is emitted
+
+-- an answer line for the import
+abbrev pub says_after : (ticks : ℕ) → Said → List AnswerLine
+says_after ticks said = record { import = codes "env.pause"; answer = record { said = said; pokes = []; ticks = ticks } } ∷ []
+
+-- 42 after 5 ticks, 1 after 3, and a trap after 4
+abbrev pub answer_lines_of_three : List (List AnswerLine)
+answer_lines_of_three = says_after 5 (S.Value (Some (V.I32 42))) ∷ says_after 3 (S.Value (Some (V.I32 1))) ∷ says_after 4 S.Trap ∷ []
+
+-- the three strands over this module, with as many steps as the bound of a cost of 40
+abbrev pub three_over : Policy → Module → StrandsInWorld
+three_over policy q =
+    record { program = with_source three_strands q; steps = Bound sample 40 (pause_stacks (notes_told (notes_of_three policy))); answers = answer_lines_of_three; binds = None ∷ []; looks = [] }
+
+-- Over whatever is emitted of the small module they tell all that its own strands tell, to their ends.
+abbrev pub ThreeTellAll : Type 0
+ThreeTellAll =
+    (policy : Policy) (q : Module) (ts : List Told) → EmittedAs sample (saving policy) may_pause q → HeldStrands (three_over policy q) outcomes_of_three ts
+    → events_told ts ≡ told_of_three (used_by policy)
+
+-- what they tell, where a pause uses so much: each calls and pauses at tick 0, and goes on when it is due
+abbrev pub lines_of_three : (used : ℕ) → List StrandLine
+lines_of_three used =
+    line_of 0 0 (asks_for (V.I32 8 ∷ [])) ∷ line_of 0 0 (paused 5 used) ∷ line_of 0 1 (asks_for (V.I32 10 ∷ [])) ∷ line_of 0 1 (paused 3 used)
+    ∷ line_of 0 2 (asks_for (V.I32 2 ∷ [])) ∷ line_of 0 2 (paused 4 used)
+    ∷ line_of 3 1 (answers_number 1) ∷ line_of 3 1 (returned 0 (Some (V.I32 6))) ∷ line_of 3 1 (ended Done)
+    ∷ line_of 4 2 (answered S.Trap) ∷ line_of 4 2 (ended (Trapped Import))
+    ∷ line_of 5 0 (answers_number 42) ∷ line_of 5 0 (returned 0 (Some (V.I32 47))) ∷ line_of 5 0 (ended Done) ∷ []
+
+-- The protocol world over whatever is emitted, by the policy that saves what is live, has these lines.
+abbrev pub EmittedTellsItsLines : Type 0
+EmittedTellsItsLines =
+    (q : Module) → EmittedAs sample (saving save_live) may_pause q → ProtocolStrandWorld (three_over save_live q ∷ []) [] [] (lines_of_three (used_by save_live)) []

@@ -5,7 +5,8 @@ ghost use Rattle.strand_laws.specs.Example.{ThreeTakeTurns};
 
 /// Under both policies the strands of what is emitted behave like those of its original: the same events of the same strands, within
 /// the bound; at each the stores agree outside all areas, at a pause the strand's area holds the image of its stack, and between events
-/// the store is one that the original has. Answers may be traps, also behind a pause.
+/// the store is one that the original has; once both have told as much, no strand goes on in the one where none does in the other.
+/// Answers may be traps, also behind a pause.
 pub fn strands_of_emitted()
     ensures { StrandsOfEmitted }
 {}

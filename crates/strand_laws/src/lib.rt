@@ -16,14 +16,25 @@
 //! order of all. `specs/Weaving.antt` has laws of weaving, and `specs/WorldExample.antt` scripts of two strands with the lines of their worlds.
 //! `proofs/ByTurns.antt` has that woven strands tell by turns, `proofs/AllByTurns.antt` that those of a world do, and `proofs/OneRun.antt` that each
 //! program's lines in a world are one run, by `proofs/WorldTurns.antt`, event by event.
+//!
+//! `specs/StrandOriginals.antt` has that a world of strands over rewritten modules has the lines of one over their originals:
+//! `proofs/EndTogether.antt` that strands in step end together, `proofs/StrandStories.antt` what one program tells, and
+//! `proofs/ActorRows.antt` that worlds whose actors print the same have the same events. `proofs/ThreeToTheEnd.antt` has three strands over
+//! whatever is emitted of a small module, and the lines of their world.
 #![tactic(auto)]
 
 mod emitted_strands;
 mod one_strand;
+mod original_worlds;
 mod world_strands;
 
 pub use emitted_strands::{strand_pauses_at_numbers, strands_of_emitted, three_strands_take_turns};
 pub use one_strand::{one_strand_is_expected, one_strand_runs_as_its_plan};
+pub use original_worlds::{
+    bounded_strands_end, bounded_worlds_are_held, compared_strands_are_orderly,
+    emitted_strands_stand_in, emitted_world_has_its_lines, strand_stories_are_of_originals,
+    strand_worlds_are_of_originals, three_strands_end,
+};
 pub use world_strands::{
     held_programs_tell_one_run, narrow_area_ends_the_program, strands_go_by_turns,
     strands_share_a_store, stretches_are_woven, strung_programs_tell_one_run, trap_ends_its_strand,
