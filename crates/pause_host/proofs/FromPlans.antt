@@ -8,6 +8,7 @@ use Rattle.host_setup.specs.Views.{Blames}
 use Rattle.pause_host.specs.declared.plan.Plan.{Plan}
 use Rattle.pause_host.specs.declared.program.Program.{Program}
 use Rattle.pause_host.specs.FromPlans.{IsOfPlan}
+use Rattle.pause_host.specs.Mailing.{awaits_in}
 use Rattle.pause_host.specs.Programs.{IsPlan, SetsUp, named_entries, source_of}
 use Rattle.pause_host.proofs.Beginning.{follows}
 
@@ -20,5 +21,6 @@ sets_up x plan (Ok program) ok err =
       ok.1,
       λ looks binds bound. follows x ok.0 looks binds bound plan m.valid ok.1 m.sizes program m.source m.globals m.setting m.number m.entries m.answers m.given m.steps m.fresh,
       ap (map answer_line_of) m.answers,
+      ap (awaits_in program.setting) m.awake,
     )
 sets_up x plan (Err fault) ok err = err

@@ -271,5 +271,6 @@ module _ (x : Plan) (parts : PausedParts) (memory : List ℕ) (funcs : List ℕ)
       lines = ap (map answer_line_of) answers_left ∙ map_drop answer_line_of parts.answers x.answers.items;
       steps = ap (λ n. n - parts.steps_used) made.steps;
       code = code ∙ made.source;
+      awake = made.awake;
       parts_are = parts_again;
     }

@@ -1,5 +1,5 @@
 -- A program as it is made of a plan.
-use Rattle.std.specs.Prelude.{◌≡◌, ℕ, List, length, map}
+use Rattle.std.specs.Prelude.{◌≡◌, ℕ, List, None, length, map}
 use Rattle.wa_types.specs.Sizes.{SizeRule}
 use Rattle.wa_types.specs.Validity.{Valid}
 use Rattle.wa_types.specs.View.{module_of}
@@ -22,4 +22,5 @@ pub record IsOfPlan (x : Plan) (funcs : List ℕ) (program : Program) : Type 0 w
   pub answers : program.left.answers.items ≡ x.answers.items
   pub given : program.given ≡ length x.answers.items
   pub steps : program.steps_left ≡ x.steps
+  pub awake : program.receive ≡ None
   pub fresh : program.state ≡ Fresh

@@ -279,9 +279,9 @@ pub record AdvancesAlone (w : W.Program) (notes : List Note) (event : EventValue
 
 -- ---- set up
 
--- Set up is a plan whose area, exports and entries are lawful: the program has told nothing yet. Else the first fault says why.
+-- Set up is a plan whose area, exports and entries are lawful: the program has told nothing yet, and waits for no mailbox. Else the first fault says why.
 abbrev pub SetsUp : Plan → Result Program SetupFault → Type 0
 SetsUp x (Ok program) = (funcs : List ℕ) × (set_up (source_of x) x.area (named_entries x) ≡ Ok funcs)
     × ((looks : List Look) (binds : List (Option (List ℕ))) → BindsAs x binds → Follows (world_program x funcs looks binds) [] [] program)
-    × (lines_left program ≡ map answer_line_of x.answers.items)
+    × (lines_left program ≡ map answer_line_of x.answers.items) × (receive_in program ≡ None)
 SetsUp x (Err fault) = Blames fault (set_up (source_of x) x.area (named_entries x))

@@ -97,6 +97,7 @@ pub record StandsThawed (x : Plan) (parts : PausedParts) (memory : List ℕ) (su
   pub lines : lines_left program ≡ drop parts.answers (lines_of x)
   pub steps : program.steps_left ≡ x.steps - parts.steps_used
   pub code : RunsCode (source_of x) program.state
+  pub awake : program.receive ≡ None
   pub parts_are : parts_in program ≡ Some parts
 
 -- the pause of these parts, with this memory, from which a program of a world goes on that is due at this tick

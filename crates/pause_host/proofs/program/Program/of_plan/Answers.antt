@@ -42,6 +42,7 @@ returns c =
           answers = c.from_vec.ensures.items;
           given = given;
           steps = refl;
+          awake = refl;
           fresh = refl;
         },
       );
