@@ -1,6 +1,9 @@
 pub mod Calls
 pub mod Hosts
 pub mod Laws
+pub mod MailHosts
+pub mod MailStanding
+pub mod MailTurns
 pub mod Notes
 pub mod Saving
 pub mod Standing

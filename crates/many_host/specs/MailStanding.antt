@@ -1,0 +1,151 @@
+-- Several programs of a world with mailboxes, as they are held between two lines.
+use Rattle.std.specs.Prelude.{◌≡◌, ◌⊎◌, ◌<◌, ℕ, suc, ◌+◌, List, [], ◌∷◌, ◌++◌, All, length, map, drop, if◌then◌else◌, nat_eq, Option, Some, None, Bool, true, false, MatchOption, slice_get}
+use Rattle.std.specs.List.{AllZip}
+use Rattle.wa_types.specs.declared.values.Value.TheVariants as V
+use Rattle.wa_model.specs.declared.answers.Detach.{Detach}
+use Rattle.wa_model.specs.declared.events.Line.{Line as LineValue}
+use Rattle.wa_model.specs.Outside.{AnswerLine, Call, Line}
+use Rattle.wa_model.specs.Plan.{Outcome}
+use Rattle.wa_model.specs.View.{line_of}
+use Rattle.wa_model.specs.Blocking.{Note}
+use Rattle.world_model.specs.World.{Device, Program, call_in, line_at}
+use Rattle.world_laws.specs.Originals.{new_calls}
+use Rattle.event_order.specs.declared.shows.Show.{Show}
+use Rattle.event_order.specs.Left.{Counted}
+use Rattle.event_order.specs.Looks.{looks_of}
+use Rattle.mailbox_device.specs.Mail.{Box, IsOrderly, Mail, names_of, waits_at_all}
+use Rattle.mail_laws.specs.Mailboxes.{mailed}
+use Rattle.mail_laws.specs.MailWorld.{ProtocolWorldFrom, begins_over, store_behind}
+use Rattle.mail_laws.specs.Told.{Await, Common, HasStory, Teller, Tells, due_of, ends_program, pending, starting, waits_at}
+use Rattle.pause_host.specs.Mailing.{MailAnswers, MailSupply, amid_of}
+use Rattle.many_host.specs.Calls.{devices_of, faults_of}
+use Rattle.many_host.specs.MailTurns.{AllWaitThere, TellsOnFrom}
+use Rattle.many_host.specs.Standing.{Held, looks_at}
+use Rattle.many_host.specs.declared.turn_taking.Stage.{Stage}
+use Rattle.many_host.specs.declared.turn_taking.Stage.TheVariants.{Between, Telling, Showing}
+
+-- What the calls of a program met as far as it is known: for a receive that wasn't answered a zero stands.
+abbrev pub met_so_far : Teller → List Outcome
+met_so_far t = t.met ++ pending 0 t.receive
+
+-- A program of a world is held so: it has told what the teller has, its calls met these outcomes, and it has ended where that has; its looks are
+-- its shows.
+pub record IsHeld {X : Type 0} (follows : X → Program → List Note → List Outcome → List AnswerLine → Option Await → Type 0) (over : X → Bool) (shows : List Show) (i : ℕ) (w : Program) (t : Teller)
+    (x : X) : Type 0 where
+  pub follow : follows x w t.told (met_so_far t) t.answers t.receive
+  pub ended_is : over x ≡ t.has_ended
+  pub told_end : ends_program t.told ≡ t.has_ended
+  pub as_many : new_calls t.told ≡ length (met_so_far t)
+  pub looks : w.looks ≡ looks_of i shows
+  pub live : begins_over w ≡ false
+
+-- It stalled where it waited: its memory is that of its pause.
+pub record HasStalled {X : Type 0} (over : X → Bool) (memory : X → List ℕ) (shows : List Show) (i : ℕ) (w : Program) (t : Teller) (x : X) : Type 0 where
+  pub ended : t.has_ended ≡ true
+  pub over_is : over x ≡ true
+  pub waited : (r : Await) × (t.receive ≡ Some r)
+  pub story : HasStory w t
+  pub memory_is : memory x ≡ (store_behind t.told).memory
+  pub looks : w.looks ≡ looks_of i shows
+
+-- A program of a world is held in one of these ways; or nothing is to come of it, and nothing is asked of what is held in its place.
+pub data Holds {X : Type 0} (follows : X → Program → List Note → List Outcome → List AnswerLine → Option Await → Type 0) (over : X → Bool) (memory : X → List ℕ) (shows : List Show) (i : ℕ)
+    (w : Program) (t : Teller) (x : X) : Type 0 where
+  on_its_way : IsHeld follows over shows i w t x → Holds follows over memory shows i w t x
+  has_stalled : HasStalled over memory shows i w t x → Holds follows over memory shows i w t x
+  has_gone : begins_over w ≡ true → t ≡ starting w → w.looks ≡ looks_of i shows → Holds follows over memory shows i w t x
+
+-- some program is due
+abbrev pub SomeDue : List Teller → Type 0
+SomeDue tellers = (i due : ℕ) × (slice_get (map due_of tellers) i ≡ Some (Some due))
+
+-- Between two lines the mailboxes have these names and nothing is settled; the programs that wait at them are exactly those that wait or have
+-- stalled, each once and where it did; and as long as one is due none has stalled.
+pub record MailStands (names : List (List ℕ)) (tellers : List Teller) (mail : Mail) : Type 0 where
+  pub names_are : names_of mail.boxes ≡ names
+  pub unsettled : mail.settled ≡ []
+  pub waiting : AllWaitThere tellers mail.boxes
+  pub once : IsOrderly mail.boxes
+  pub each : (i : ℕ) (t : Teller) (r : Await) → slice_get tellers i ≡ Some t → waits_at t ≡ Some r → waits_at_all i mail.boxes ≡ 1
+  pub live : SomeDue tellers → (i : ℕ) (t : Teller) → slice_get tellers i ≡ Some t → 0 < waits_at_all i mail.boxes → t.has_ended ≡ false
+
+-- what the programs share between two events
+abbrev pub common_of : List Device → Mail → (last : ℕ) → Common
+common_of ds mail last = record { devices = ds; boxes = mail.boxes; tick = last }
+
+-- Behind so many events whole ones are told; or a turn has begun; or whole ones but for what is still to be shown of a program's memory. The last
+-- event had this tick.
+abbrev pub StandsAtFrom : {X : Type 0} → (begun : ℕ) → (X → List ℕ) → List Program → List Detach → (boxes : List (List ℕ)) → List Device → (count : ℕ) → List Line → List Teller → Held X → (last : ℕ)
+    → List Device → Mail → Stage → Type 0
+StandsAtFrom begun memory programs detaches boxes ds count lines tellers h last ds' mail Between =
+    Tells begun programs detaches boxes ds count lines tellers (common_of ds' mail last) × MailStands boxes tellers mail
+StandsAtFrom begun memory programs detaches boxes ds count lines tellers h last ds' mail (Telling turn) =
+    (number : ℕ) × (count ≡ suc number) × (t : Teller) × (slice_get tellers turn.program ≡ Some t)
+    × TellsOnFrom begun programs detaches boxes ds number turn.program turn.due lines tellers (amid_of ds' mail t.receive) × (last ≡ turn.due)
+StandsAtFrom {X} begun memory programs detaches boxes ds count lines tellers h last ds' mail (Showing turn from) =
+    (x : X) × (slice_get h.programs turn.program ≡ Some x)
+    × Tells begun programs detaches boxes ds count (lines ++ map (line_at turn.due turn.program) (looks_at (memory x) (looks_of turn.program (drop from h.shows)))) tellers (common_of ds' mail last)
+    × MailStands boxes tellers mail
+
+-- Behind so many events these lines of a world of the programs with mailboxes of these names have been told, and these devices and mailboxes are
+-- there.
+pub record StandingFrom {X : Type 0} (begun : ℕ) (follows : X → Program → List Note → List Outcome → List AnswerLine → Option Await → Type 0) (over : X → Bool) (memory : X → List ℕ)
+    (programs : List Program) (detaches : List Detach) (boxes : List (List ℕ)) (ds : List Device) (lines : List Line) (h : Held X) (last : ℕ) (ds' : List Device) (mail : Mail) (stage : Stage) : Type 0 where
+  pub tellers : List Teller
+  pub wide : length tellers ≡ length programs
+  pub as_many : length h.programs ≡ length programs
+  pub each : (i : ℕ) (w : Program) (t : Teller) (x : X) → slice_get programs i ≡ Some w → slice_get tellers i ≡ Some t → slice_get h.programs i ≡ Some x → Holds follows over memory h.shows i w t x
+  pub dues : h.dues ≡ map due_of tellers
+  pub detaches_are : h.detaches ≡ detaches
+  pub earlier_is : h.earlier ≡ begun
+  pub count : ℕ
+  pub begun_is : begun + count ≡ h.begun
+  pub at : StandsAtFrom begun memory programs detaches boxes ds count lines tellers h last ds' mail stage
+
+-- Behind some events lines of some world of programs have been told.
+pub record IsTelling {X : Type 0} (follows : X → Program → List Note → List Outcome → List AnswerLine → Option Await → Type 0) (over : X → Bool) (memory : X → List ℕ) (h : Held X) (last : ℕ)
+    (ds' : List Device) (mail : Mail) (stage : Stage) : Type 0 where
+  pub begun : ℕ
+  pub programs : List Program
+  pub detaches : List Detach
+  pub boxes : List (List ℕ)
+  pub devices : List Device
+  pub lines : List Line
+  pub stands : StandingFrom begun follows over memory programs detaches boxes devices lines h last ds' mail stage
+
+-- ---- the next line
+
+-- An outcome as it is known later: the same, or the answer of a receive for which a zero stood.
+abbrev pub IsKnownAs : Outcome → Outcome → Type 0
+IsKnownAs o o' = (o' ≡ o) ⊎ ((o ≡ mailed (Some (V.I32 0)) 1) × (value : ℕ) × (o' ≡ mailed (Some (V.I32 value)) 1))
+
+-- What each program's calls have met is what they had, as it is known now, and those of the program of this number met these outcomes behind.
+abbrev pub MeetMore : (program : ℕ) → List Outcome → (tellers tellers' : List Teller) → Type 0
+MeetMore program met tellers tellers' =
+    (i : ℕ) (t t' : Teller) → slice_get tellers i ≡ Some t → slice_get tellers' i ≡ Some t' → AllZip IsKnownAs (met_so_far t ++ (if nat_eq i program then met else [])) (met_so_far t')
+
+-- what a new call takes of devices and mailboxes, or of the program's answer lines, or of what it waits for
+pub record CallTakes (w : Program) (c : Call) (met : List Outcome) (old new : List Counted) (mail mail' : Mail) : Type 0 where
+  pub answers : List AnswerLine
+  pub left : List AnswerLine
+  pub before : Option Await
+  pub behind : Option Await
+  pub outcome : Outcome
+  pub met_is : met ≡ outcome ∷ []
+  pub takes : MailAnswers w c (record { lines = answers; amid = amid_of (devices_of old) mail before; faults = faults_of old }) outcome
+      (record { lines = left; amid = amid_of (devices_of new) mail' behind; faults = faults_of new })
+
+-- Where the line tells a new call, that met this outcome, and left these devices and mailboxes; nothing else met one, or changed a device.
+pub record TakesCall (programs : List Program) (line : Line) (met : List Outcome) (old new : List Counted) (mail mail' : Mail) : Type 0 where
+  pub w : Program
+  pub program : slice_get programs line.program ≡ Some w
+  pub takes : MatchOption (call_in line.event) ((met ≡ []) × (new ≡ old)) (λ c. CallTakes w c met old new mail mail')
+
+-- The host tells this line more; its call met these outcomes, and left these devices and mailboxes.
+pub record TellsLineFrom {X : Type 0} (begun : ℕ) (follows : X → Program → List Note → List Outcome → List AnswerLine → Option Await → Type 0) (over : X → Bool) (memory : X → List ℕ)
+    (programs : List Program) (detaches : List Detach) (boxes : List (List ℕ)) (ds : List Device) (lines : List Line) (tellers : List Teller) (old new : List Counted) (mail : Mail) (line : Line) (h : Held X)
+    (last : ℕ) (ds' : List Device) (mail' : Mail) (stage : Stage) : Type 0 where
+  pub stands : StandingFrom begun follows over memory programs detaches boxes ds (lines ++ line ∷ []) h last ds' mail' stage
+  pub met : List Outcome
+  pub meets : MeetMore line.program met tellers stands.tellers
+  pub takes : TakesCall programs line met old new mail mail'
