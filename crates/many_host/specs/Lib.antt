@@ -8,6 +8,7 @@ pub mod Notes
 pub mod Saving
 pub mod Standing
 pub mod Telling
+pub mod ToldMail
 pub mod ToldNotes
 pub mod ToldTurns
 pub mod Turns
