@@ -1,23 +1,21 @@
 -- Several programs of a world with mailboxes, as they are held between two lines.
-use Rattle.std.specs.Prelude.{◌≡◌, ◌⊎◌, ◌<◌, ℕ, suc, ◌+◌, List, [], ◌∷◌, ◌++◌, All, length, map, drop, if◌then◌else◌, nat_eq, Option, Some, None, Bool, true, false, MatchOption, slice_get}
+use Rattle.std.specs.Prelude.{◌≡◌, ◌⊎◌, ◌<◌, ℕ, suc, ◌+◌, List, [], ◌∷◌, ◌++◌, length, map, drop, if◌then◌else◌, nat_eq, Option, Some, Bool, true, false, MatchOption, slice_get}
 use Rattle.std.specs.List.{AllZip}
 use Rattle.wa_types.specs.declared.values.Value.TheVariants as V
 use Rattle.wa_model.specs.declared.answers.Detach.{Detach}
-use Rattle.wa_model.specs.declared.events.Line.{Line as LineValue}
 use Rattle.wa_model.specs.Outside.{AnswerLine, Call, Line}
 use Rattle.wa_model.specs.Plan.{Outcome}
-use Rattle.wa_model.specs.View.{line_of}
 use Rattle.wa_model.specs.Blocking.{Note}
 use Rattle.world_model.specs.World.{Device, Program, call_in, line_at}
 use Rattle.world_laws.specs.Originals.{new_calls}
 use Rattle.event_order.specs.declared.shows.Show.{Show}
 use Rattle.event_order.specs.Left.{Counted}
 use Rattle.event_order.specs.Looks.{looks_of}
-use Rattle.mailbox_device.specs.Mail.{Box, IsOrderly, Mail, names_of, waits_at_all}
+use Rattle.mailbox_device.specs.Mail.{IsOrderly, Mail, names_of, waits_at_all}
 use Rattle.mail_laws.specs.Mailboxes.{mailed}
-use Rattle.mail_laws.specs.MailWorld.{ProtocolWorldFrom, begins_over, store_behind}
+use Rattle.mail_laws.specs.MailWorld.{begins_over, store_behind}
 use Rattle.mail_laws.specs.Told.{Await, Common, HasStory, Teller, Tells, due_of, ends_program, pending, starting, waits_at}
-use Rattle.pause_host.specs.Mailing.{MailAnswers, MailSupply, amid_of}
+use Rattle.pause_host.specs.Mailing.{MailAnswers, amid_of}
 use Rattle.many_host.specs.Calls.{devices_of, faults_of}
 use Rattle.many_host.specs.MailTurns.{AllWaitThere, TellsOnFrom}
 use Rattle.many_host.specs.Standing.{Held, looks_at}
