@@ -6,7 +6,6 @@ use Rattle.wa_model.specs.declared.answers.Detach.{Detach}
 use Rattle.wa_model.specs.declared.events.Line.{Line as LineValue}
 use Rattle.wa_model.specs.Outside.{AnswerLine, Call, Event, Line, parked}
 use Rattle.wa_model.specs.Plan.{Outcome}
-use Rattle.wa_model.specs.View.{line_of}
 use Rattle.wa_model.specs.Blocking.{Note}
 use Rattle.world_model.specs.World.{Device, Program, call_in, line_at}
 use Rattle.world_laws.specs.Originals.{new_calls}
