@@ -1,5 +1,5 @@
 -- What is answered, as plain data.
-use Rattle.std.specs.Prelude.{◌≡◌, ◌⊎◌, ◌≤◌, ◌++◌, ℕ, List, [], ◌∷◌, length, Option, None, Result, Err}
+use Rattle.std.specs.Prelude.{◌≡◌, ◌⊎◌, ◌≤◌, ◌++◌, ℕ, List, [], ◌∷◌, length, map, Option, None, Result, Err}
 use Rattle.std.specs.List.{AllZip}
 use Rattle.vault_port.specs.Counts.{FailsAtMostOnce}
 use Rattle.vault_port.specs.Files.{Files, CannotRead}
@@ -13,7 +13,7 @@ use Rattle.script_setup.specs.Scripts.{IsNoScript}
 use Rattle.wasm_reader.specs.Held.{Holds}
 use Rattle.module_files.specs.declared.fault.FileFault.{FileFault}
 use Rattle.module_files.specs.declared.fault.FileFault.TheVariants as F
-use Rattle.script_reader.specs.Views.{program_of}
+use Rattle.script_reader.specs.Views.{mailbox_of, program_of}
 use Rattle.script_setup.specs.SetUpRules.{SetUp}
 use Rattle.script_setup.specs.Views.{set_up_of}
 use Rattle.world_hosting.specs.Worlds.{FitsPlan, IsListing, Part}
@@ -74,11 +74,12 @@ pub record OpensNext (way : Way) (files : Option Files) (t : ProgramText) (old n
 
 -- ---- scripts
 
--- What a script opens: what it plays, and the devices that it takes out.
+-- What a script opens: what it plays, the devices that it takes out, and its mailboxes.
 pub record Opens (way : Way) (files : Option Files) (name : List ℕ) (o : Opened) : Type 0 where
   pub play : Play way files name
   pub parts_are : play.parts ≡ parts_of o.programs.modules.items o.programs.planned.items
   pub detaches_are : detaches_in play.whole ≡ o.detaches.items
+  pub mailboxes_are : play.whole.mailboxes ≡ map mailbox_of o.mailboxes.items
 
 -- .. which can be played: there are few programs, and each can be staged over its module
 pub record CanPlay (o : Opened) : Type 0 where

@@ -18,11 +18,12 @@ use vault_port::Vault;
 use wa_model::Detach;
 use world_hosting::scripts_fit;
 
-/// A script's programs, all set up over their modules, and the devices that it takes out.
+/// A script's programs, all set up over their modules, the devices that it takes out, and its mailboxes.
 #[derive(Drop)]
 pub struct Opened {
     pub programs: Programs,
     pub detaches: Vec<Detach>,
+    pub mailboxes: Vec<MailboxText>,
 }
 
 /// Reads a script, then each of its programs in order: its module, and then its set-up rules. Answers them, or why the first that
