@@ -1,10 +1,14 @@
 pub mod Calls
 pub mod Hosts
 pub mod Laws
+pub mod MailHosts
+pub mod MailStanding
+pub mod MailTurns
 pub mod Notes
 pub mod Saving
 pub mod Standing
 pub mod Telling
+pub mod ToldMail
 pub mod ToldNotes
 pub mod ToldTurns
 pub mod Turns

@@ -27,7 +27,8 @@ pub(crate) enum Stage {
     Showing { turn: Turn, from: usize },
 }
 
-/// Programs that share a list of devices and take turns. So many turns have begun, `earlier` of them before these programs were held.
+/// Programs that share a list of devices and take turns. So many turns have begun, `earlier` of them before these programs were held; the
+/// last had the tick `last`, which is 0 before the first.
 #[derive(Drop)]
 pub struct Turns<T> {
     alloc: Global,
@@ -37,6 +38,7 @@ pub struct Turns<T> {
     shows: Vec<Show>,
     begun: u64,
     earlier: u64,
+    last: u64,
     stage: Stage,
 }
 
@@ -68,6 +70,7 @@ impl<T: Teller + Drop> Turns<T> {
             shows,
             begun,
             earlier: begun,
+            last: 0,
             stage: Stage::Between,
         }
     }
@@ -191,6 +194,7 @@ impl<T: Teller + Drop> Turns<T> {
         };
         let begun = self.begun + 1;
         self.begun = begun;
+        self.last = turn.due;
         detach_before(devices, &self.detaches, begun);
         Ok(Some(self.tell(turn, devices)?))
     }

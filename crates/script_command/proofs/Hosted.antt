@@ -36,19 +36,19 @@ stands_in x y listed h =
       original_start = refl;
     }
 
-all_stand_in : (files : Option Files) (boxes : List (List ℕ)) (xs : List Source) (ys : List Part) → All (IsStage Host boxes files) ys → AllZip IsHosted xs ys → AllZip StandsIn (hosted_originals xs ys) (world_programs ys)
+pub all_stand_in : (files : Option Files) (boxes : List (List ℕ)) (xs : List Source) (ys : List Part) → All (IsStage Host boxes files) ys → AllZip IsHosted xs ys → AllZip StandsIn (hosted_originals xs ys) (world_programs ys)
 all_stand_in files boxes [] [] st h = tt
 all_stand_in files boxes [] (y ∷ ys) st h = absurd h
 all_stand_in files boxes (x ∷ xs) [] st h = absurd h
 all_stand_in files boxes (x ∷ xs) (y ∷ ys) st h =
     (stands_in x y (listed_none files boxes y (All-head (IsStage Host boxes files) y ys st)) h.0, all_stand_in files boxes xs ys (All-tail (IsStage Host boxes files) y ys st) h.1)
 
-all_may_run : (xs : List Source) (ys : List Part) → AllZip IsHosted xs ys → All MayRunUntold (hosted_originals xs ys)
+pub all_may_run : (xs : List Source) (ys : List Part) → AllZip IsHosted xs ys → All MayRunUntold (hosted_originals xs ys)
 all_may_run [] ys h = All-nil MayRunUntold
 all_may_run (x ∷ xs) [] h = absurd h
 all_may_run (x ∷ xs) (y ∷ ys) h = let first = h.0 in All-cons MayRunUntold (hosted_for x y) (hosted_originals xs ys) first.may (all_may_run xs ys h.1)
 
-same_imports : (xs : List Source) (ys : List Part) → AllZip IsHosted xs ys → AllZip SameImports xs ys
+pub same_imports : (xs : List Source) (ys : List Part) → AllZip IsHosted xs ys → AllZip SameImports xs ys
 same_imports [] [] h = tt
 same_imports [] (y ∷ ys) h = absurd h
 same_imports (x ∷ xs) [] h = absurd h

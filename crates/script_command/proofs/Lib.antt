@@ -6,6 +6,7 @@ pub mod GoingOver
 mod Hosted
 pub mod JoinedRuns
 pub mod JoinedTexts
+mod MailToldOf
 pub mod OfOriginals
 pub mod OneOriginal
 pub mod OneRead

@@ -11,7 +11,7 @@ use Rattle.transcript.specs.declared.refusals.RefusalKind.TheVariants as K
 use Rattle.script_command.specs.declared.way.Way.TheVariants.{Run}
 use Rattle.script_command.specs.Playing as P
 use Rattle.script_command.specs.Playing.{HasScript, bad_line, bad_module, bad_script}
-use Rattle.script_command.specs.Views.{AreOpened, BlamesPrograms, BlamesScript, boxes_of}
+use Rattle.script_command.specs.Views.{AreOpened, BlamesPrograms, BlamesScript, box_names_of}
 use Rattle.script_command.proofs.Openings.{stops_so}
 use Rattle.script_command.proofs.Scripts.{same_detaches, script_blamed}
 use Rattle.script_command.proofs.Statuses.{refused_content, stop_told}
@@ -22,10 +22,10 @@ use Rattle.script_command.specs.SnapshotViews.{Blames, IsToldStop, Opens, refuse
 -- ---- what is opened
 
 pub opens_plain : (files : Option Files) (name : List ℕ) (whole : ScriptValue) → HasScript files name (script_of whole) → sharing_line (script_of whole) ≡ None → (mid : Option Files) (o : Opened) → mid ≡ files
-    → o.detaches.items ≡ whole.detaches.items → AreOpened Run (boxes_of whole.mailboxes.items) mid (map program_of whole.programs.items) o.programs → Opens files name o
+    → o.detaches.items ≡ whole.detaches.items → AreOpened Run (box_names_of whole.mailboxes.items) mid (map program_of whole.programs.items) o.programs → Opens files name o
 opens_plain files name whole has none mid o same taken are =
-    let here : AreOpened Run (boxes_of whole.mailboxes.items) files (map program_of whole.programs.items) o.programs =
-    subst (λ (all : Option Files). AreOpened Run (boxes_of whole.mailboxes.items) all (map program_of whole.programs.items) o.programs) same are in
+    let here : AreOpened Run (box_names_of whole.mailboxes.items) files (map program_of whole.programs.items) o.programs =
+    subst (λ (all : Option Files). AreOpened Run (box_names_of whole.mailboxes.items) all (map program_of whole.programs.items) o.programs) same are in
     record {
       play = record { run = record { whole = script_of whole; of_script = has; parts = _; stages = here.stages }; none = none };
       parts_are = refl;

@@ -113,12 +113,17 @@ same_imports [] (y ∷ ys) h = absurd h
 same_imports (x ∷ xs) [] h = absurd h
 same_imports (x ∷ xs) (y ∷ ys) h = (h.0.rewrites.parts.imports, same_imports xs ys h.1)
 
--- a text of these programs, by the names of their originals
+-- a text of these programs that counts so many events, by the names of their originals
+pub text_by_originals : (xs : List Source) (ys : List Part) (text : List ℕ) (events : ℕ) (lines : List Line) → AllZip SameImports xs ys
+    → text ≡ Transcript (map part_names ys) (length ys) events lines → text ≡ Transcript (original_names xs ys) (length xs) events lines
+text_by_originals xs ys text events lines same is =
+    is ∙ ap (λ (ns : List Names). Transcript ns (length ys) events lines) (same_names xs ys same)
+    ∙ ap (λ (n : ℕ). Transcript (original_names xs ys) n events lines) (as_many xs ys same)
+
+-- the same where they are its turns
 pub text_of_originals : (xs : List Source) (ys : List Part) (text : List ℕ) (lines : List Line) → AllZip SameImports xs ys
     → text ≡ Transcript (map part_names ys) (length ys) (turn_count lines) lines → text ≡ Transcript (original_names xs ys) (length xs) (turn_count lines) lines
-text_of_originals xs ys text lines same is =
-    is ∙ ap (λ (ns : List Names). Transcript ns (length ys) (turn_count lines) lines) (same_names xs ys same)
-    ∙ ap (λ (n : ℕ). Transcript (original_names xs ys) n (turn_count lines) lines) (as_many xs ys same)
+text_of_originals xs ys text lines same is = text_by_originals xs ys text (turn_count lines) lines same is
 
 pub runs_of_originals : RunsAreOfOriginals
 runs_of_originals files name play =

@@ -10,7 +10,7 @@ use Rattle.script_setup.specs.Scripts.{IsScript}
 use Rattle.wasm_reader.specs.Held.{Holds}
 use Rattle.script_setup.proofs.Counts.{few_programs}
 use Rattle.script_reader.specs.declared.script.Script.{Script as ScriptValue}
-use Rattle.script_reader.specs.Views.{detach_of, program_of, script_of}
+use Rattle.script_reader.specs.Views.{detach_of, mailbox_of, program_of, script_of}
 use Rattle.world_hosting.specs.Worlds.{FitsPlan}
 use Rattle.world_hosting.specs.Laws.{ScriptsFit}
 use Rattle.script_command.specs.declared.way.Way.{Way}
@@ -18,7 +18,7 @@ use Rattle.script_command.specs.declared.opening.Opened.{Opened}
 use Rattle.script_command.specs.declared.stop.Stop.{Stop}
 use Rattle.script_command.proofs.Choices.{scripts_choose}
 use Rattle.script_command.specs.Playing.{Cause, HasChoice, HasScript, IsReached, IsRefused, Reaches, boxes_in, bad_line, bad_module, bad_script, detach_for}
-use Rattle.script_command.specs.Views.{AreOpened, Blames, BlamesPrograms, BlamesScript, CanPlay, IsRefusedNext, Opens, boxes_of}
+use Rattle.script_command.specs.Views.{AreOpened, Blames, BlamesPrograms, BlamesScript, CanPlay, IsRefusedNext, Opens, box_names_of}
 use Rattle.script_command.proofs.Openings.{stops_so, text_in, texts_of_parts}
 
 -- ---- what is opened
@@ -53,16 +53,17 @@ module _ (whole : ScriptValue) (read : (bytes : List ℕ) × IsScript bytes (scr
   texts_choose = scripts_choose read.0 (script_of whole) read.1.text
 
   pub opens : (files : Option Files) (name : List ℕ) → HasScript files name (script_of whole) → (way : Way) (mid : Option Files) (o : Opened) → mid ≡ files
-      → o.detaches.items ≡ whole.detaches.items → AreOpened way (boxes_of whole.mailboxes.items) mid (map program_of whole.programs.items) o.programs → Opens way files name o
-  opens files name has way mid o same taken are =
-      let here : AreOpened way (boxes_of whole.mailboxes.items) files (map program_of whole.programs.items) o.programs = subst (λ (all : Option Files). AreOpened way (boxes_of whole.mailboxes.items) all (map program_of whole.programs.items) o.programs) same are in
+      → o.detaches.items ≡ whole.detaches.items → o.mailboxes.items ≡ whole.mailboxes.items → AreOpened way (box_names_of whole.mailboxes.items) mid (map program_of whole.programs.items) o.programs → Opens way files name o
+  opens files name has way mid o same taken declared are =
+      let here : AreOpened way (box_names_of whole.mailboxes.items) files (map program_of whole.programs.items) o.programs = subst (λ (all : Option Files). AreOpened way (box_names_of whole.mailboxes.items) all (map program_of whole.programs.items) o.programs) same are in
       record {
         play = record { whole = script_of whole; of_script = has; parts = _; stages = here.stages };
         parts_are = refl;
         detaches_are = same_detaches whole.detaches.items ∙ sym taken;
+        mailboxes_are = ap (map mailbox_of) (sym declared);
       }
 
-  pub plays : (way : Way) (mid : Option Files) (o : Opened) → AreOpened way (boxes_of whole.mailboxes.items) mid (map program_of whole.programs.items) o.programs → CanPlay o
+  pub plays : (way : Way) (mid : Option Files) (o : Opened) → AreOpened way (box_names_of whole.mailboxes.items) mid (map program_of whole.programs.items) o.programs → CanPlay o
   plays way mid o are =
       let texts : map text_in o.programs.planned.items ≡ map program_of whole.programs.items =
       sym (texts_of_parts o.programs.modules.items o.programs.planned.items are.each) ∙ are.stages.texts_are in

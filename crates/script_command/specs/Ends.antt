@@ -11,8 +11,7 @@ use Rattle.transcript.specs.Refused.{status_of, Prints, PrintsMemoryPast}
 use Rattle.script_command.specs.declared.way.Way.{Way}
 use Rattle.script_command.specs.declared.way.Way.TheVariants.{Run}
 use Rattle.script_command.specs.Playing.{Cause, bad_module, Play, IsRefused, IsRead, refusal_of_cause}
-use Rattle.script_command.specs.Transcripts.{IsBeginning}
-use Rattle.script_command.specs.OfOriginals.{IsToldOf}
+use Rattle.script_command.specs.MailTold.{IsBegun, IsTold}
 
 -- A call: its way and its script; the files; the counts of faults, what the sink has taken and the devices, with their counts, before and after it. (The
 -- files stay as they are.)
@@ -72,14 +71,14 @@ status_of_end sink_fault = 12
 -- a cause, or of a file that couldn't be read, and then they are as they were
 abbrev pub IsLine : Call → (least : ℕ) → List ℕ → Type 0
 IsLine c least line =
-    ((play : Play c.way c.files c.name) × IsBeginning Memory play c.devices c.devices' least line)
+    ((play : Play c.way c.files c.name) × IsBegun Memory play c.devices c.devices' least line)
     ⊎ ((cause : Cause) × IsRefused c.way c.files c.name cause × (line ≡ cause_line cause) × (least ≡ 0) × (c.devices' ≡ c.devices))
     ⊎ ((read : List ℕ) × IsRead c.way c.files c.name read × (line ≡ refusal_line None (read_fault read)) × (least ≡ 0) × (c.devices' ≡ c.devices))
 
 -- Why a call has this end, what was printed, and what became of the devices: what is played takes them from those that were there to
 -- those that are left, and is told of the programs' originals; a refusal leaves them as they were.
 abbrev pub IsWhy : Call → End → Type 0
-IsWhy c done = (play : Play c.way c.files c.name) × (text : List ℕ) × IsToldOf play c.devices c.devices' text × Becomes c.taken c.taken' (Appends text)
+IsWhy c done = (play : Play c.way c.files c.name) × (text : List ℕ) × IsTold play c.devices c.devices' text × Becomes c.taken c.taken' (Appends text)
 IsWhy c (refused cause) =
     IsRefused c.way c.files c.name cause × Becomes c.taken c.taken' (Prints (cause_line cause) c.sink_faults c.sink_faults') × (c.devices' ≡ c.devices)
 IsWhy c memory = (least : ℕ) × (line : List ℕ) × IsLine c least line × Becomes c.taken c.taken' (PrintsMemoryPast least line c.sink_faults c.sink_faults')
@@ -88,7 +87,7 @@ IsWhy c (read_fault_of read) =
     × Becomes c.taken c.taken' (Prints (refusal_line None (read_fault read)) c.sink_faults c.sink_faults') × (c.devices' ≡ c.devices)
 IsWhy c sink_fault =
     (play : Play c.way c.files c.name) × FailsOnce c.sink_faults c.sink_faults'
-    × (least : ℕ) × (text : List ℕ) × IsBeginning Fault play c.devices c.devices' least text × Becomes c.taken c.taken' (AppendsPast least text)
+    × (least : ℕ) × (text : List ℕ) × IsBegun Fault play c.devices c.devices' least text × Becomes c.taken c.taken' (AppendsPast least text)
 
 -- The call has one end, by its status, and the reason for it.
 pub record HasEnd (c : Call) (status : ℕ) : Type 0 where

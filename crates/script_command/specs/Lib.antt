@@ -4,6 +4,7 @@ pub mod Ends
 pub mod HostedOriginals
 pub mod JoinedRuns
 pub mod Laws
+pub mod MailTold
 pub mod OfOriginals
 pub mod PlainScripts
 pub mod PlayedFaults

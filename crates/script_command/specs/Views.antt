@@ -42,8 +42,8 @@ IsBadModuleFor way files t _ = Unit {0}
 -- ---- programs
 
 -- the names of mailboxes
-abbrev pub boxes_of : List MailboxText → List (List ℕ)
-boxes_of mailboxes = box_names (map mailbox_of mailboxes)
+abbrev pub box_names_of : List MailboxText → List (List ℕ)
+box_names_of mailboxes = box_names (map mailbox_of mailboxes)
 
 -- the part of a script that is planned over a module
 abbrev pub part_of : ModuleValue → Planned → Part
@@ -79,11 +79,12 @@ pub record OpensNext (way : Way) (boxes : List (List ℕ)) (files : Option Files
 
 -- ---- scripts
 
--- What a script opens: what it plays, and the devices that it takes out.
+-- What a script opens: what it plays, the devices that it takes out, and its mailboxes.
 pub record Opens (way : Way) (files : Option Files) (name : List ℕ) (o : Opened) : Type 0 where
   pub play : Play way files name
   pub parts_are : play.parts ≡ parts_of o.programs.modules.items o.programs.planned.items
   pub detaches_are : detaches_in play.whole ≡ o.detaches.items
+  pub mailboxes_are : play.whole.mailboxes ≡ map mailbox_of o.mailboxes.items
 
 -- .. which can be played: there are few programs, and each can be staged over its module
 pub record CanPlay (o : Opened) : Type 0 where

@@ -148,7 +148,11 @@ fn continue_from<S: Sink>(
     ensures same_list { devices.new.list.ghost_name ≡ devices.old.list.ghost_name }
     ensures faults { S.faults out.old ≤ S.faults out.new }
 {
-    let Opened { programs, detaches } = opened;
+    let Opened {
+        programs,
+        detaches,
+        mailboxes: _,
+    } = opened;
     let Programs { modules, planned } = programs;
     let events = snapshot.events;
     match resume_all(alloc, &modules, planned, snapshot) {

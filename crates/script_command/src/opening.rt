@@ -5,24 +5,25 @@ ghost use Rattle.std.specs.Result.{IfErr};
 ghost use Rattle.script_reader.specs.Views.{program_of, script_of};
 ghost use Rattle.script_setup.specs.Scripts.{IsScript};
 ghost use Rattle.script_command.specs.Playing.{HasScript};
-ghost use Rattle.script_command.specs.Views.{AreOpened, Blames, BlamesPrograms, BlamesScript, CanPlay, Opens, boxes_of};
+ghost use Rattle.script_command.specs.Views.{AreOpened, Blames, BlamesPrograms, BlamesScript, CanPlay, Opens, box_names_of};
 
 use crate::programs::{Programs, open_programs};
 use crate::stop::{Stop, refused, unread};
 use crate::way::Way;
 use module_files::FileFault;
-use script_reader::Script;
+use script_reader::{MailboxText, Script};
 use script_setup::fetch_script;
 use std::alloc::Global;
 use vault_port::Vault;
 use wa_model::Detach;
 use world_hosting::scripts_fit;
 
-/// A script's programs, all set up over their modules, and the devices that it takes out.
+/// A script's programs, all set up over their modules, the devices that it takes out, and its mailboxes.
 #[derive(Drop)]
 pub struct Opened {
     pub programs: Programs,
     pub detaches: Vec<Detach>,
+    pub mailboxes: Vec<MailboxText>,
 }
 
 /// Reads a script, then each of its programs in order: its module, and then its set-up rules. Answers them, or why the first that
@@ -68,7 +69,7 @@ pub(crate) fn read_whole<V: Vault>(
     }
 }
 
-/// The programs of a script that was read, in order, and the devices that it takes out; or why the first program that isn't set up can't
+/// The programs of a script that was read, in order, the devices that it takes out, and its mailboxes; or why the first program that isn't set up can't
 /// be. No file changes.
 pub(crate) fn open_whole<V: Vault>(
     alloc: Global,
@@ -77,10 +78,11 @@ pub(crate) fn open_whole<V: Vault>(
     whole: Script,
 ) -> Result<Opened, Stop>
     requires { (bytes : List ℕ) × IsScript bytes (script_of whole) }
-    ensures opened { IfOk result (λ o. AreOpened way (boxes_of whole.mailboxes.items) (V.files vault.old) (map program_of whole.programs.items) o.programs) }
+    ensures opened { IfOk result (λ o. AreOpened way (box_names_of whole.mailboxes.items) (V.files vault.old) (map program_of whole.programs.items) o.programs) }
     ensures detaches { IfOk result (λ o. o.detaches.items ≡ whole.detaches.items) }
+    ensures mailboxes { IfOk result (λ o. o.mailboxes.items ≡ whole.mailboxes.items) }
     ensures plays { IfOk result CanPlay }
-    ensures refused { IfErr result (λ stop. BlamesPrograms way (boxes_of whole.mailboxes.items) (V.files vault.old) (V.fetch_faults vault.old) (V.fetch_faults vault.new)
+    ensures refused { IfErr result (λ stop. BlamesPrograms way (box_names_of whole.mailboxes.items) (V.files vault.old) (V.fetch_faults vault.old) (V.fetch_faults vault.new)
         (map program_of whole.programs.items) stop) }
     ensures kept { V.files vault.new ≡ V.files vault.old }
     ensures stays { OnOk result (V.fetch_faults vault.new ≡ V.fetch_faults vault.old) }
@@ -94,7 +96,11 @@ pub(crate) fn open_whole<V: Vault>(
         mailboxes,
     } = whole;
     match open_programs(alloc, vault, way, &mailboxes, programs) {
-        Ok(programs) => Ok(Opened { programs, detaches }),
+        Ok(programs) => Ok(Opened {
+            programs,
+            detaches,
+            mailboxes,
+        }),
         Err(stop) => Err(stop),
     }
 }

@@ -1,10 +1,12 @@
 //! A script, played: from its file to the status.
 
-ghost use Rattle.std.specs.Prelude.{◌≡◌, ◌≤◌, ℕ, List, Option, length};
+ghost use Rattle.std.specs.Prelude.{◌≡◌, ◌≤◌, [], IfOk, ℕ, List, Option, length, map};
 ghost use Rattle.vault_port.specs.Counts.{FailsAtMostOnce};
 ghost use Rattle.vault_port.specs.Files.{Files};
 ghost use Rattle.transcript.specs.Refused.{CountsBy};
 ghost use Rattle.host_laws.specs.Supplies.{IsLent};
+ghost use Rattle.script_reader.specs.Views.{mailbox_of};
+ghost use Rattle.script_setup.specs.SetUpRules.{box_names};
 ghost use Rattle.script_command.specs.Playing.{Play, detaches_in};
 ghost use Rattle.script_command.specs.Views.{CanPlay, Opens};
 ghost use Rattle.script_command.specs.declared.way.Way.{Way as WayValue};
@@ -13,6 +15,7 @@ ghost use Rattle.world_hosting.specs.Views.{AreStaged};
 ghost use Rattle.world_hosting.specs.Worlds.{Part};
 ghost use Rattle.script_command.specs.Answers.{HasOneEnd};
 ghost use Rattle.script_command.specs.Ends.{HasEnd, IsStatus, call};
+ghost use Rattle.script_command.specs.MailTold.{boxes_of};
 
 use crate::opening::{Opened, open_script};
 use crate::programs::Programs;
@@ -20,11 +23,13 @@ use crate::staging::stage_all;
 use crate::stop::tell_stop;
 use crate::way::Way;
 use device_port::{Device, Devices};
-use std::alloc::Global;
+use script_reader::MailboxText;
+use std::alloc::{AllocError, Global};
 use transcript::out_of_memory;
 use vault_port::{PutFault, Sink, Vault};
 use wa_model::Detach;
-use world_hosting::{Staged, host_programs};
+use wa_types::Name;
+use world_hosting::{Staged, host_mail_programs, host_programs};
 
 /// The status of a sink that failed while a transcript was printed.
 const SINK_FAULT: u8 = 12;
@@ -74,15 +79,61 @@ fn play<S: Sink>(alloc: Global, out: &mut S, devices: &mut Devices<'_>, opened: 
     ensures stays { result ≡ 0 → S.faults out.new ≡ S.faults out.old }
     ensures faults { S.faults out.old ≤ S.faults out.new }
 {
-    let Opened { programs, detaches } = opened;
+    let Opened {
+        programs,
+        detaches,
+        mailboxes,
+    } = opened;
     let Programs { modules, planned } = programs;
     match stage_all(alloc, &modules, planned) {
-        Ok(staged) => tell(alloc, out, devices, staged, detaches),
+        Ok(staged) => tell_by_mail(alloc, out, devices, staged, detaches, mailboxes),
         Err(_) => out_of_memory(out),
     }
 }
 
-// Prints what programs tell.
+// Prints what programs tell, with mailboxes where there are some.
+fn tell_by_mail<S: Sink>(
+    alloc: Global,
+    out: &mut S,
+    devices: &mut Devices<'_>,
+    staged: Vec<Staged<'_>>,
+    detaches: Vec<Detach>,
+    mailboxes: Vec<MailboxText>,
+) -> u8
+    requires lent { IsLent }
+    requires few { length staged.items ≤ 16 }
+    requires staged { (parts : List Part) × AreStaged parts staged.items }
+    ensures end { (way : WayValue) (files : Option Files) (name : List ℕ) (fetched fetched' : ℕ) (play : Play way files name)
+        → AreStaged play.parts staged.entry.items → detaches_in play.whole ≡ detaches.items → play.whole.mailboxes ≡ map mailbox_of mailboxes.entry.items
+        → HasEnd (call way name files fetched fetched' (S.faults out.old) (S.faults out.new) (S.taken out.old) (S.taken out.new)
+        (counted seen (λ d. (⟦<dyn Device as Device>⟧ d.0).faults d.1) devices.old)
+        (counted seen (λ d. (⟦<dyn Device as Device>⟧ d.0).faults d.1) devices.new)) result }
+    ensures same_list { devices.new.list.ghost_name ≡ devices.old.list.ghost_name }
+    ensures once { FailsAtMostOnce (S.faults out.old) (S.faults out.new) }
+    ensures stays { result ≡ 0 → S.faults out.new ≡ S.faults out.old }
+    ensures faults { S.faults out.old ≤ S.faults out.new }
+{
+    if mailboxes.is_empty() {
+        return tell(alloc, out, devices, staged, detaches);
+    }
+    match mailbox_names(alloc, mailboxes) {
+        Ok(names) => tell_with_mail(alloc, out, devices, staged, detaches, names),
+        Err(_) => out_of_memory(out),
+    }
+}
+
+// The names of mailboxes, in order.
+fn mailbox_names(alloc: Global, texts: Vec<MailboxText>) -> Result<Vec<Name>, AllocError>
+    ensures { IfOk result (λ names. names.items ≡ box_names (map mailbox_of texts.entry.items)) }
+{
+    let mut names = Vec::new(alloc);
+    for text in texts {
+        names.push(text.name)?;
+    }
+    Ok(names)
+}
+
+// Prints what programs without mailboxes tell.
 fn tell<S: Sink>(
     alloc: Global,
     out: &mut S,
@@ -94,7 +145,7 @@ fn tell<S: Sink>(
     requires few { length staged.items ≤ 16 }
     requires staged { (parts : List Part) × AreStaged parts staged.items }
     ensures end { (way : WayValue) (files : Option Files) (name : List ℕ) (fetched fetched' : ℕ) (play : Play way files name)
-        → AreStaged play.parts staged.entry.items → detaches_in play.whole ≡ detaches.items
+        → AreStaged play.parts staged.entry.items → detaches_in play.whole ≡ detaches.items → play.whole.mailboxes ≡ []
         → HasEnd (call way name files fetched fetched' (S.faults out.old) (S.faults out.new) (S.taken out.old) (S.taken out.new)
         (counted seen (λ d. (⟦<dyn Device as Device>⟧ d.0).faults d.1) devices.old)
         (counted seen (λ d. (⟦<dyn Device as Device>⟧ d.0).faults d.1) devices.new)) result }
@@ -104,6 +155,35 @@ fn tell<S: Sink>(
     ensures faults { S.faults out.old ≤ S.faults out.new }
 {
     match host_programs(alloc, out, staged, detaches, devices) {
+        Ok(()) => 0,
+        Err(PutFault::Fault) => SINK_FAULT,
+        Err(PutFault::Memory) => out_of_memory(out),
+    }
+}
+
+// Prints what programs with mailboxes tell.
+fn tell_with_mail<S: Sink>(
+    alloc: Global,
+    out: &mut S,
+    devices: &mut Devices<'_>,
+    staged: Vec<Staged<'_>>,
+    detaches: Vec<Detach>,
+    mailboxes: Vec<Name>,
+) -> u8
+    requires lent { IsLent }
+    requires few { length staged.items ≤ 16 }
+    requires staged { (parts : List Part) × AreStaged parts staged.items }
+    ensures end { (way : WayValue) (files : Option Files) (name : List ℕ) (fetched fetched' : ℕ) (play : Play way files name)
+        → AreStaged play.parts staged.entry.items → detaches_in play.whole ≡ detaches.items → boxes_of play ≡ mailboxes.items → (play.whole.mailboxes ≡ [] → ⊥)
+        → HasEnd (call way name files fetched fetched' (S.faults out.old) (S.faults out.new) (S.taken out.old) (S.taken out.new)
+        (counted seen (λ d. (⟦<dyn Device as Device>⟧ d.0).faults d.1) devices.old)
+        (counted seen (λ d. (⟦<dyn Device as Device>⟧ d.0).faults d.1) devices.new)) result }
+    ensures same_list { devices.new.list.ghost_name ≡ devices.old.list.ghost_name }
+    ensures once { FailsAtMostOnce (S.faults out.old) (S.faults out.new) }
+    ensures stays { result ≡ 0 → S.faults out.new ≡ S.faults out.old }
+    ensures faults { S.faults out.old ≤ S.faults out.new }
+{
+    match host_mail_programs(alloc, out, staged, detaches, mailboxes, devices) {
         Ok(()) => 0,
         Err(PutFault::Fault) => SINK_FAULT,
         Err(PutFault::Memory) => out_of_memory(out),

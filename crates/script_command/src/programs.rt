@@ -9,7 +9,7 @@ ghost use Rattle.script_setup.specs.SetUpRules.{set_up_rules};
 ghost use Rattle.world_hosting.specs.Worlds.{FitsPlan, IsListing};
 ghost use Rattle.world_hosting.specs.Views.{listing};
 ghost use Rattle.script_command.specs.Playing.{HasChoice, IsModule, asks_all};
-ghost use Rattle.script_command.specs.Views.{AreOpened, BlamesLine, BlamesNext, BlamesPrograms, OpensNext, boxes_of};
+ghost use Rattle.script_command.specs.Views.{AreOpened, BlamesLine, BlamesNext, BlamesPrograms, OpensNext, box_names_of};
 
 use crate::modules::{Loaded, fetch_module};
 use crate::stop::{Stop, refused, refused_module, unread};
@@ -50,8 +50,8 @@ pub(crate) fn open_programs<V: Vault>(
     requires few { length texts.items ≤ 16 }
     requires fits { All FitsPlan (map program_of texts.items) }
     requires choices { All HasChoice (map program_of texts.items) }
-    ensures opened { IfOk result (λ ps. AreOpened way (boxes_of mailboxes.now) (V.files vault.old) (map program_of texts.items) ps) }
-    ensures refused { IfErr result (λ stop. BlamesPrograms way (boxes_of mailboxes.now) (V.files vault.old) (V.fetch_faults vault.old) (V.fetch_faults vault.new) (map program_of texts.items) stop) }
+    ensures opened { IfOk result (λ ps. AreOpened way (box_names_of mailboxes.now) (V.files vault.old) (map program_of texts.items) ps) }
+    ensures refused { IfErr result (λ stop. BlamesPrograms way (box_names_of mailboxes.now) (V.files vault.old) (V.fetch_faults vault.old) (V.fetch_faults vault.new) (map program_of texts.items) stop) }
     ensures kept { V.files vault.new ≡ V.files vault.old }
     ensures stays { OnOk result (V.fetch_faults vault.new ≡ V.fetch_faults vault.old) }
     ensures faults { V.fetch_faults vault.old ≤ V.fetch_faults vault.new }
@@ -81,8 +81,8 @@ fn open_next<V: Vault>(
     requires few { length programs.old.planned.items < 16 }
     requires fits { FitsPlan (program_of text) }
     requires choice { HasChoice (program_of text) }
-    ensures opened { OnOk result (OpensNext way (boxes_of mailboxes.now) (V.files vault.old) (program_of text) programs.old programs.new) }
-    ensures refused { IfErr result (λ stop. BlamesNext way (boxes_of mailboxes.now) (V.files vault.old) (V.fetch_faults vault.old) (V.fetch_faults vault.new) (length programs.old.planned.items) (program_of text) stop) }
+    ensures opened { OnOk result (OpensNext way (box_names_of mailboxes.now) (V.files vault.old) (program_of text) programs.old programs.new) }
+    ensures refused { IfErr result (λ stop. BlamesNext way (box_names_of mailboxes.now) (V.files vault.old) (V.fetch_faults vault.old) (V.fetch_faults vault.new) (length programs.old.planned.items) (program_of text) stop) }
     ensures kept { V.files vault.new ≡ V.files vault.old }
     ensures stays { OnOk result (V.fetch_faults vault.new ≡ V.fetch_faults vault.old) }
     ensures faults { V.fetch_faults vault.old ≤ V.fetch_faults vault.new }
@@ -109,8 +109,8 @@ fn plan_program(
     requires fits { FitsPlan (program_of text) }
     requires listing { IsListing (module_of loaded.valid) (listing loaded.listed) }
     ensures opened { (files : Option Files) → IsModule way files (program_of text) (module_of loaded.valid) (listing loaded.listed)
-        → OnOk result (OpensNext way (boxes_of mailboxes.now) files (program_of text) programs.old programs.new) }
-    ensures refused { IfErr result (λ stop. BlamesLine (set_up_rules (asks_all way) (boxes_of mailboxes.now) (module_of loaded.valid) (program_of text)) stop) }
+        → OnOk result (OpensNext way (box_names_of mailboxes.now) files (program_of text) programs.old programs.new) }
+    ensures refused { IfErr result (λ stop. BlamesLine (set_up_rules (asks_all way) (box_names_of mailboxes.now) (module_of loaded.valid) (program_of text)) stop) }
 {
     match set_up_program(alloc, &loaded.valid, mailboxes, &text, way.asks_all()) {
         Ok(given) => put_program(programs, loaded, text, given),

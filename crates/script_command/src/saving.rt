@@ -164,7 +164,11 @@ fn play_to<S: Sink>(
     ensures stays { result ≢ Err Stop.Sink → S.faults out.new ≡ S.faults out.old }
     ensures faults { S.faults out.old ≤ S.faults out.new }
 {
-    let Opened { programs, detaches } = opened;
+    let Opened {
+        programs,
+        detaches,
+        mailboxes: _,
+    } = opened;
     let Programs { modules, planned } = programs;
     match stage_all(alloc, &modules, planned) {
         Ok(staged) => play_staged(alloc, out, devices, staged, detaches, most),

@@ -172,7 +172,7 @@ fn tell_events<S: Sink>(
     ensures faults { S.faults out.old ≤ S.faults out.new }
 {
     'telling: for _told in 0..u64::MAX {
-        let Ok(next) = host.next(devices) else {
+        let Ok(next) = host.next_without_mail(devices) else {
             return Err(PutFault::Memory);
         };
         let Some(line) = next else {

@@ -118,7 +118,7 @@ fn tell_lines<S: Sink>(
 {
     'telling: for _told in 0..u64::MAX {
         let events = host.events();
-        let Ok(next) = host.next(devices) else {
+        let Ok(next) = host.next_without_mail(devices) else {
             return Err(PutFault::Memory);
         };
         let Some(line) = next else {

@@ -11,18 +11,18 @@ use Rattle.script_command.proofs.playing.play.Goals as goal
 pub stage_all-requires : goal.stage_all-requires
 stage_all-requires g c = subst (λ (ms : List Module). AllZip CanStage ms c.args.opened.programs.planned.items) (sym c.deref.ensures.value) c.requires.plays.each
 
-pub tell-requires-clause-few : goal.tell-requires-clause-few
-tell-requires-clause-few g c = few_staged c.args.opened _ _ c.requires.plays c.in-Ok.ensures
+pub tell_by_mail-requires-clause-few : goal.tell_by_mail-requires-clause-few
+tell_by_mail-requires-clause-few g c = few_staged c.args.opened _ _ c.requires.plays c.in-Ok.ensures
 
 pub returns-in-Ok-clause-end : goal.returns-in-Ok-clause-end
 returns-in-Ok-clause-end g c = λ way files name f f' opens.
-    c.tell.ensures.end way files name f f' opens.play
+    c.tell_by_mail.ensures.end way files name f f' opens.play
     (staged_parts c.args.opened.programs.planned.items c.deref.result.now c.args.opened.programs.modules.items opens.play.parts _ opens.parts_are c.deref.ensures.value c.in-Ok.ensures)
-    opens.detaches_are
+    opens.detaches_are opens.mailboxes_are
 
 pub returns-in-Err-clause-end : goal.returns-in-Err-clause-end
 returns-in-Err-clause-end g c = λ way files name f f' opens.
     out_of_memory_alone (call way name files f f' _ _ _ _ _ _) c.out_of_memory.result refl c.out_of_memory.ensures.status c.out_of_memory.ensures.printed
 
-pub tell-requires-clause-staged : goal.tell-requires-clause-staged
-tell-requires-clause-staged g c = (parts_of c.deref.result.now c.args.opened.programs.planned.items, c.in-Ok.ensures)
+pub tell_by_mail-requires-clause-staged : goal.tell_by_mail-requires-clause-staged
+tell_by_mail-requires-clause-staged g c = (parts_of c.deref.result.now c.args.opened.programs.planned.items, c.in-Ok.ensures)

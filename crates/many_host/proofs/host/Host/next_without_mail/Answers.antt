@@ -2,7 +2,7 @@ use Rattle.std.proofs.lemmas.Result.{IfOk-weaker}
 use Rattle.many_host.proofs.FewTurns.{few_turns}
 use Rattle.many_host.specs.Standing.{held_of}
 use Rattle.many_host.proofs.Worlds.{host_next, same_host}
-use Rattle.many_host.proofs.host.Host.next.Goals as goal
+use Rattle.many_host.proofs.host.Host.next_without_mail.Goals as goal
 
 pub returns-clause-told : goal.returns-clause-told
 returns-clause-told g c = λ programs detaches ds lines told.
