@@ -79,7 +79,7 @@ module _ (way : Way) (files : Option Files) (name : List ℕ) (f h : ℕ) where
   no_script_blamed stop b = stops_so files f h _ _ _ _ stop (λ r none. (bad_script (refusal_of r.kind), (none.0, none.1, none.2), (none.3, refl))) (λ read own. inl own) b
 
   module _ (whole : Script) (has : HasScript files name whole) where
-    reaches : (number : ℕ) (t : ProgramText) → IsReached way (boxes_in whole) files whole.programs number t → Reaches way files name number t
+    abbrev reaches : (number : ℕ) (t : ProgramText) → IsReached way (boxes_in whole) files whole.programs number t → Reaches way files name number t
     reaches number t is = record { whole = whole; of_script = has; reached = is }
 
     -- what a program that is reached is refused for, the script is
