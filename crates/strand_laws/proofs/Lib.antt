@@ -8,8 +8,8 @@ pub mod Clear
 pub mod Compared
 pub mod EachWorld
 pub mod Emitted
-pub mod Endings
 pub mod EndTogether
+pub mod Endings
 pub mod EndsThere
 pub mod Hanging
 pub mod InStep
@@ -28,11 +28,14 @@ pub mod Resumed
 pub mod SameGood
 pub mod StartFirst
 pub mod Stores
+pub mod StrandForks
 pub mod StrandLines
 pub mod StrandModules
 pub mod StrandShows
 pub mod StrandStories
+pub mod StrandTails
 pub mod StrandWorlds
+pub mod StrandsMet
 pub mod Stretches
 pub mod Switch
 pub mod Threads

@@ -2,6 +2,7 @@ pub mod EmittedStrands
 pub mod Example
 pub mod OneStrand
 pub mod StrandOriginals
+pub mod StrandsMet
 pub mod StrandWorld
 pub mod Strands
 pub mod Weaving
