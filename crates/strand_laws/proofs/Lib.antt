@@ -3,6 +3,7 @@ pub mod AllByTurns
 pub mod Apart
 pub mod Beginnings
 pub mod Between
+pub mod Blocks
 pub mod ByTurns
 pub mod Clear
 pub mod Compared
@@ -40,7 +41,10 @@ pub mod Stretches
 pub mod Switch
 pub mod Threads
 pub mod ThreeToTheEnd
+pub mod ToldStrands
+pub mod ToldWorlds
 pub mod TurnEnds
+pub mod TurnTaken
 pub mod Turns
 pub mod TurnsTold
 pub mod TwoActors

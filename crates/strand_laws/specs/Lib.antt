@@ -2,9 +2,10 @@ pub mod EmittedStrands
 pub mod Example
 pub mod OneStrand
 pub mod StrandOriginals
-pub mod StrandsMet
 pub mod StrandWorld
 pub mod Strands
+pub mod StrandsMet
+pub mod ToldStrands
 pub mod Weaving
 pub mod WorldExample
 pub mod Woven

@@ -22,11 +22,15 @@
 //! `proofs/ActorRows.antt` that worlds whose actors print the same have the same events. `specs/StrandsMet.antt` has that strands tell the same with
 //! the outcomes alone that their calls meet. `proofs/ThreeToTheEnd.antt` has three strands over whatever is emitted of a small module, and
 //! the lines of their world.
+//!
+//! `specs/ToldStrands.antt` has worlds of strands as they are told, turn by turn, when no strand's story is known beforehand: `proofs/ToldStrands.antt`
+//! has that a turn that is told is an event of the world, `proofs/ToldWorlds.antt` that all are.
 #![tactic(auto)]
 
 mod emitted_strands;
 mod one_strand;
 mod original_worlds;
+mod told_worlds;
 mod world_strands;
 
 pub use emitted_strands::{strand_pauses_at_numbers, strands_of_emitted, three_strands_take_turns};
@@ -36,6 +40,7 @@ pub use original_worlds::{
     emitted_strands_stand_in, emitted_world_has_its_lines, strand_stories_are_of_met,
     strand_stories_are_of_originals, strand_worlds_are_of_originals, three_strands_end,
 };
+pub use told_worlds::{all_told_strands_are_a_world, told_strands_are_a_world};
 pub use world_strands::{
     held_programs_tell_one_run, narrow_area_ends_the_program, strands_go_by_turns,
     strands_share_a_store, stretches_are_woven, strung_programs_tell_one_run, trap_ends_its_strand,
