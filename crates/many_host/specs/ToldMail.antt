@@ -12,8 +12,7 @@ use Rattle.mailbox_device.specs.Mail.{Mail, WaitsNowhere, empty_mail}
 use Rattle.mail_laws.specs.MailWorld.{ProtocolWorldFrom, parks, store_behind, told_pause}
 use Rattle.mail_laws.specs.Told.{Amid, Await, HasStory, HaveEnded, IsLeast, NoneDue, Teller, Tells, due_of, having_told, parked_in, settle_all, starting, waits_at}
 use Rattle.pause_host.specs.Mailing.{MailSupply, TakesMail, amid_of}
-use Rattle.many_host.specs.Hosts.{has_ended, memory_of}
-use Rattle.many_host.specs.MailHosts.{HaveMet, follows}
+use Rattle.many_host.specs.MailHosts.{HaveMet}
 use Rattle.many_host.specs.MailStanding.{Holds, MailStands, common_of, met_so_far}
 use Rattle.many_host.specs.MailTurns.{TellsOnFrom}
 use Rattle.many_host.specs.declared.hosted.Hosted.{Hosted}
@@ -87,7 +86,7 @@ MailStalls =
 
 -- What a program that is held has told begins its story.
 abbrev pub HeldHasStory : Type 0
-HeldHasStory = (shows : List Show) (i : ℕ) (w : Program) (t : Teller) (x : Hosted) → Holds follows has_ended memory_of shows i w t x → HasStory w t
+HeldHasStory = (shows : List Show) (i : ℕ) (w : Program) (t : Teller) (x : Hosted) → Holds shows i w t x → HasStory w t
 
 -- Some run of the world with mailboxes of these names, behind so many events, has these first lines, in which each program's calls meet first what they
 -- have met.
