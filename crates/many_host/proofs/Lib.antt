@@ -8,6 +8,11 @@ pub mod FewLines
 pub mod FewTurns
 pub mod Further
 pub mod KeptTables
+pub mod MailBoxes
+pub mod MailKept
+pub mod MailNotes
+pub mod MailSettled
+pub mod MailStories
 pub mod MetLines
 pub mod Notes
 pub mod Numbers

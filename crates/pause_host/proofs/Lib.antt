@@ -21,6 +21,7 @@ pub mod Pauses
 pub mod Reopened
 pub mod Results
 pub mod Stagings
+pub mod Stopping
 pub mod Supplied
 pub mod Suspensions
 pub mod Tables

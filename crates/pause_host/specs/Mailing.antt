@@ -97,6 +97,10 @@ AsksAt import args place old new asked =
     (x : Setting) (name : List ℕ) (ds : List Device) (r : Option ℕ) → bound_in x import ≡ Some name → position (is_box name) old.boxes ≡ Some place
     → AsksMailbox import name args (amid_of ds old (awaits_in x r)) (outcome_of asked.met) (amid_of ds new (awaits_in x (latest asked.receive r)))
 
+-- A receive at an empty mailbox is answered a zero behind a pause.
+abbrev pub WaitsATick : Asked → Type 0
+WaitsATick asked = (import : ℕ) → asked.receive ≡ Some import → outcome_of asked.met ≡ mailed (Some (V.I32 0)) 1
+
 -- A new call meets this outcome, and leaves this. A receive at an empty mailbox runs as one that is answered a zero behind a pause: its
 -- value isn't known yet.
 pub record MailAnswers (w : Program) (c : Call) (old : MailSupply) (o : Outcome) (new : MailSupply) : Type 0 where

@@ -21,7 +21,7 @@ use Rattle.run_theory.specs.Alone.{Goes}
 use Rattle.wa_model.specs.Blocking as B
 use Rattle.wa_model.specs.Blocking.{Note, note, Asker, inside, outermost, the_start, an_entry, with_outcomes}
 use Rattle.wa_model.specs.Protocol.{exports_of, protocol, Held, busy, calling, over, Phase, is_running, unwinds, rewinds, Then, held_asked, store_held}
-use Rattle.world_model.specs.World.{Program, base_names, import_names}
+use Rattle.world_model.specs.World.{Program, base_names, call_in, import_names}
 use Rattle.run_laws.specs.FittingStates.{HeldFits, ExportsTyped}
 use Rattle.interp.specs.declared.turns.Turn.{Turn}
 use Rattle.interp.specs.declared.turns.Turn.TheVariants.{StepsSpent}
@@ -35,6 +35,7 @@ use Rattle.pause_host.specs.declared.exports.Exported.{Exported}
 use Rattle.pause_host.specs.declared.exports.Exported.TheVariants as X
 use Rattle.pause_host.specs.declared.exports.Work.{Work}
 use Rattle.pause_host.specs.declared.exports.Work.TheVariants.{Unwinding, Rewinding}
+use Rattle.pause_host.specs.declared.stages.Heard.{Heard}
 use Rattle.pause_host.specs.declared.stages.HostImport.{HostImport}
 use Rattle.pause_host.specs.declared.stages.Moved.{Moved}
 use Rattle.pause_host.specs.declared.stages.Next.{Next}
@@ -44,7 +45,7 @@ use Rattle.pause_host.specs.declared.stages.Stage.TheVariants as StageV
 use Rattle.pause_host.specs.declared.stages.Task.{Task}
 use Rattle.pause_host.specs.declared.stages.Task.TheVariants as T
 use Rattle.pause_host.specs.Mailing.{MailSupply, TellsMailFrom}
-use Rattle.pause_host.specs.Views.{exports_in, entry_of, is_pause, is_paused, place_in}
+use Rattle.pause_host.specs.Views.{exports_in, entry_of, is_pause, is_paused, is_stopping, place_in}
 
 -- the setting is that of a program of a world, over a valid module with a memory and with the five exports
 pub record IsSetting (w : Program) (x : Setting) : Type 0 where
@@ -92,6 +93,14 @@ Comes w h left used m supply supply' l s waits = ComesFrom w (stands [] h) left 
 -- The program is then paused exactly where the event is a pause.
 abbrev pub PausesSo : Moved → Type 0
 PausesSo m = is_paused m.stage ≡ is_pause (event_of m.event)
+
+-- The event is no new call, and none comes before a pause was answered.
+abbrev pub Stops : Moved → Type 0
+Stops m = (call_in (event_of m.event) ≡ None) × (is_stopping m.stage ≡ true)
+
+-- No new call comes behind a receive at an empty mailbox before that was answered.
+abbrev pub StopsAtReceive : Heard → Type 0
+StopsAtReceive h = (import : ℕ) → h.receive ≡ Some import → is_stopping h.moved.stage ≡ true
 
 -- ---- parts of the way to it
 
@@ -170,6 +179,11 @@ NextFrom w from left used (N.Calls task call) l s waits = CallComes w from left 
 abbrev pub NextPauses : Next → Type 0
 NextPauses (N.Told m) = PausesSo m
 NextPauses (N.Calls task call) = Unit {0}
+
+-- An event comes, behind which the program stops.
+abbrev pub NextStops : Next → Type 0
+NextStops (N.Told m) = Stops m
+NextStops (N.Calls task call) = ⊥
 
 -- this end comes, and was told then
 abbrev pub TellsEnd : End → Next → Type 0

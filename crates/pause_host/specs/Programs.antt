@@ -28,7 +28,7 @@ use Rattle.host_setup.specs.Views.{Blames}
 use Rattle.host_laws.specs.Places.{Place, stands, has_ended, nowhere}
 use Rattle.host_laws.specs.Stories.{IsAt}
 use Rattle.host_laws.specs.Supplies.{Supply, Takes}
-use Rattle.pause_host.specs.Views.{exports_in, is_pause, is_paused, left_of, lines_in, place_in}
+use Rattle.pause_host.specs.Views.{exports_in, is_pause, is_paused, is_stopping, left_of, lines_in, place_in}
 use Rattle.pause_host.specs.Holding.{PlaceHolds}
 use Rattle.pause_host.specs.Moves.{IsSetting, PlaceFits, HasShortPokes}
 use Rattle.mailbox_device.specs.Mail.{Mail}
@@ -184,6 +184,16 @@ behind_end how state = state
 -- the name of the mailbox at which it is parked: it is paused at a receive that wasn't answered
 abbrev pub parked_in : Program → Option (List ℕ)
 parked_in x = if is_at_pause x.state then option_map (λ (r : Await). r.box) (receive_in x) else None
+
+-- no new call comes in a state before a pause was told and answered
+abbrev pub stops_at : State → Bool
+stops_at (Live instance stage) = is_stopping stage
+stops_at (Failed how) = true
+stops_at _ = false
+
+-- Where a receive wasn't answered no new call comes before it is.
+abbrev pub StopsBehindReceive : Program → Type 0
+StopsBehindReceive x = (r : Await) → receive_in x ≡ Some r → stops_at x.state ≡ true
 
 -- what answers its calls: these devices with their counts of faults, and these mailboxes,
 abbrev pub mail_supply_with : Program → List Device → (faults : List ℕ) → Mail → MailSupply

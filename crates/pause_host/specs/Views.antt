@@ -120,6 +120,14 @@ abbrev pub is_paused : Stage → Bool
 is_paused (Paused pause) = true
 is_paused _ = false
 
+-- a stage from which no new call comes before a pause was told and answered: it pauses, is paused, or has come to its end
+abbrev pub is_stopping : Stage → Bool
+is_stopping (Pausing pause) = true
+is_stopping (Paused pause) = true
+is_stopping (Ending end) = true
+is_stopping (Ended end) = true
+is_stopping _ = false
+
 -- an event tells a pause
 abbrev pub is_pause : Event → Bool
 is_pause (paused ticks used) = true

@@ -10,7 +10,7 @@ ghost use Rattle.device_port.specs.Listed.{of_all};
 ghost use Rattle.mail_laws.specs.Mailboxes.{mailed};
 ghost use Rattle.host_laws.specs.Answering.{outcome_of};
 ghost use Rattle.host_laws.specs.Supplies.{Counts, RisesAtMostOne};
-ghost use Rattle.pause_host.specs.Mailing.{AsksAt, MailAnswers, awaits_in, bound_in, latest, mail_supply};
+ghost use Rattle.pause_host.specs.Mailing.{AsksAt, MailAnswers, WaitsATick, awaits_in, bound_in, latest, mail_supply};
 ghost use Rattle.pause_host.specs.Moves.{IsSetting};
 ghost use Rattle.pause_host.specs.Views.{lines_in};
 
@@ -45,6 +45,7 @@ pub(crate) fn next_outcome(
         → (r : Option ℕ) → IfOk result (λ asked. MailAnswers w (call_of call.now)
         (mail_supply seen faults (lines_in answers.old.items) devices.old mail.old (awaits_in setting.now r)) (outcome_of asked.met)
         (mail_supply seen faults (lines_in answers.new.items) devices.new mail.new (awaits_in setting.now (latest asked.receive r)))) }
+    ensures waits { IfOk result WaitsATick }
     ensures kept { IsErr result → of_all seen devices.new ≡ of_all seen devices.old }
     ensures once { IsErr result → RisesAtMostOne (of_all faults devices.old) (of_all faults devices.new) }
     ensures mail { IsErr result → mail.new ≡ mail.old }
@@ -104,6 +105,7 @@ fn ask_mailbox(
 ) -> Result<Asked, AllocError>
     requires { place < length mail.old.boxes }
     ensures asks { IfOk result (λ asked. AsksAt call.now.import call.now.args.items place mail.old mail.new asked) }
+    ensures waits { IfOk result WaitsATick }
     ensures kept { IsErr result → mail.new ≡ mail.old }
 {
     match call.args.as_slice() {
@@ -123,6 +125,7 @@ fn ask_with(
 ) -> Result<Asked, AllocError>
     requires { place < length mail.old.boxes }
     ensures asks { IfOk result (λ asked. AsksAt import (value ∷ []) place mail.old mail.new asked) }
+    ensures none { IfOk result (λ asked. asked.receive ≡ None) }
     ensures kept { IsErr result → mail.new ≡ mail.old }
 {
     match value {
@@ -135,6 +138,7 @@ fn ask_with(
 fn send(alloc: Global, place: usize, value: u32, mail: &mut Mailboxes) -> Result<Asked, AllocError>
     requires { place < length mail.old.boxes }
     ensures asks { (import : ℕ) → IfOk result (λ asked. AsksAt import (V.I32 value ∷ []) place mail.old mail.new asked) }
+    ensures none { IfOk result (λ asked. asked.receive ≡ None) }
     ensures kept { IsErr result → mail.new ≡ mail.old }
 {
     mail.send(place, value)?;
@@ -146,7 +150,8 @@ fn send(alloc: Global, place: usize, value: u32, mail: &mut Mailboxes) -> Result
 // A receive is answered the first value at once. Where none is queued it waits.
 fn receive(alloc: Global, import: u32, place: usize, mail: &mut Mailboxes) -> Asked
     requires { place < length mail.old.boxes }
-    ensures { AsksAt import [] place mail.old mail.new result }
+    ensures asks { AsksAt import [] place mail.old mail.new result }
+    ensures waits { WaitsATick result }
 {
     match mail.receive(place) {
         Some(reply) => Asked {

@@ -4,7 +4,7 @@ ghost use Rattle.std.specs.Prelude.{◌≡◌, IfOk};
 ghost use Rattle.wa_model.specs.Store.{Store};
 ghost use Rattle.pause_host.specs.declared.stages.Setting.{Setting};
 ghost use Rattle.pause_host.specs.Hosting.{MayAsk};
-ghost use Rattle.pause_host.specs.Moves.{NextPauses, PausesSo, TellsEnd};
+ghost use Rattle.pause_host.specs.Moves.{NextPauses, NextStops, PausesSo, Stops, TellsEnd};
 
 use crate::stages::{Moved, Next, Stage};
 use std::alloc::{AllocError, Global};
@@ -16,6 +16,7 @@ pub fn ended(alloc: Global, end: End) -> Result<Moved, AllocError>
     ensures event { IfOk result (λ m. m.event ≡ Event.Ended end) }
     ensures stage { IfOk result (λ m. m.stage ≡ Stage.Ended end) }
     ensures pauses { IfOk result PausesSo }
+    ensures stops { IfOk result Stops }
 {
     let told = copy_end(alloc, &end)?;
     Ok(Moved {
@@ -28,6 +29,7 @@ pub fn ended(alloc: Global, end: End) -> Result<Moved, AllocError>
 pub fn ends(alloc: Global, end: End) -> Result<Next, AllocError>
     ensures end { IfOk result (TellsEnd end) }
     ensures pauses { IfOk result NextPauses }
+    ensures stops { IfOk result NextStops }
     ensures asks { (x : Setting) (s : Store) → IfOk result (MayAsk x s) }
 {
     let moved = ended(alloc, end)?;

@@ -1,12 +1,12 @@
 //! What comes next of a program, by the stage where it stands.
 
-ghost use Rattle.std.specs.Prelude.{◌≡◌, ◌<◌, ◌≤◌, ◌+◌, ◌-◌, ◌^◌, IfOk, None};
+ghost use Rattle.std.specs.Prelude.{◌≡◌, ◌<◌, ◌≤◌, ◌+◌, ◌-◌, ◌^◌, IfOk, None, false, true};
 ghost use Rattle.wa_model.specs.Protocol.{exports_of};
 ghost use Rattle.world_model.specs.World.{Program};
 ghost use Rattle.interp.specs.Host.{code_in, store_in, waits_in};
 ghost use Rattle.pause_host.specs.Hosting.{HostsAt, MayAsk};
-ghost use Rattle.pause_host.specs.Moves.{IsSetting, NextFrom, NextPauses, PlaceFits};
-ghost use Rattle.pause_host.specs.Views.{end_of, left_of, place_in};
+ghost use Rattle.pause_host.specs.Moves.{IsSetting, NextFrom, NextPauses, NextStops, PlaceFits};
+ghost use Rattle.pause_host.specs.Views.{end_of, is_paused, is_stopping, left_of, place_in};
 
 use crate::ends::ends;
 use crate::rewinding::rewind;
@@ -32,6 +32,7 @@ pub fn next_event(
         (steps.new.used - steps.old.used) n (left_of left.new) (store_in instance.new) (waits_in instance.new)) }
     ensures asks { IfOk result (MayAsk setting.now (store_in instance.new)) }
     ensures pauses { IfOk result NextPauses }
+    ensures stops { is_stopping stage ≡ true → is_paused stage ≡ false → IfOk result NextStops }
     ensures answers { left.new.answers ≡ left.old.answers }
     ensures code { code_in instance.new ≡ code_in instance.old }
     ensures sum { steps.new.left + steps.new.used ≡ steps.old.left + steps.old.used }

@@ -1,6 +1,6 @@
 //! `Program`: a plan over a prepared module, advanced from event to event.
 
-ghost use Rattle.std.specs.Prelude.{◌≡◌, ◌<◌, ◌≤◌, ◌+◌, ◌*◌, ◌++◌, ◌^◌, [], ◌∷◌, ℕ, suc, List, IfOk, IsErr, IfErr, IfSome, IsSome, None, Ok, Some, length, map, min};
+ghost use Rattle.std.specs.Prelude.{◌≡◌, ◌<◌, ◌≤◌, ◌+◌, ◌*◌, ◌++◌, ◌^◌, [], ◌∷◌, ℕ, suc, List, IfOk, IsErr, IfErr, IfSome, IsSome, None, Ok, Some, false, true, length, map, min};
 ghost use Rattle.std.specs.Option.{option_copied, option_map, unwrap_or};
 ghost use Rattle.wa_types.specs.Memory.{page_size};
 ghost use Rattle.wa_model.specs.View.{event_of};
@@ -10,7 +10,7 @@ ghost use Rattle.mail_laws.specs.MailWorld.{told_pause};
 ghost use Rattle.pause_host.specs.declared.stages.Setting.{Setting as SettingValue};
 ghost use Rattle.pause_host.specs.Mailing.{awaits_in, bound_in, latest};
 ghost use Rattle.pause_host.specs.Programs.{is_at_pause};
-ghost use Rattle.pause_host.specs.Views.{is_paused};
+ghost use Rattle.pause_host.specs.Views.{is_paused, is_stopping};
 
 use crate::asking::{bound_to, mail_answer};
 use crate::ends::copy_end;
@@ -63,7 +63,7 @@ impl<'m> Program<'m> {
     ghost use Rattle.wa_model.specs.Blocking.{Note, no_store, note};
     ghost use Rattle.wa_model.specs.Protocol.{over, starting};
     ghost use Rattle.wa_model.specs.Plan.{Outcome};
-    ghost use Rattle.world_model.specs.World.{Device, Program as WorldProgram};
+    ghost use Rattle.world_model.specs.World.{Device, Program as WorldProgram, call_in};
     ghost use Rattle.wa_types.specs.View.{module_of};
     ghost use Rattle.wa_model.specs.Instantiation.{opening, opens};
     ghost use Rattle.interp_state.specs.Faults.{FailsAs};
@@ -81,7 +81,7 @@ impl<'m> Program<'m> {
     ghost use Rattle.pause_host.specs.Views.{end_of, left_of};
     ghost use Rattle.snapshot_store.specs.Views.{parts_of};
     ghost use Rattle.pause_host.specs.Parting.{memory_if, parts_in};
-    ghost use Rattle.pause_host.specs.Programs.{Advances, AdvancesAlone, Follows, FollowsAlone, FollowsAt, IsOnItsWay, IsPlan, MailAdvances, MayGoOn, OnItsWay, RunsCode, SetsUp, TellsNext, behind_end, end_due, ended_as, ending_in, mail_supply_of, mail_supply_with, memory_in, named_entries, parked_in, place_of, receive_in, source_of, supply_of, lines_left};
+    ghost use Rattle.pause_host.specs.Programs.{Advances, AdvancesAlone, Follows, FollowsAlone, FollowsAt, IsOnItsWay, IsPlan, MailAdvances, MayGoOn, OnItsWay, RunsCode, SetsUp, StopsBehindReceive, TellsNext, behind_end, end_due, ended_as, ending_in, mail_supply_of, mail_supply_with, memory_in, named_entries, parked_in, place_of, receive_in, source_of, supply_of, lines_left};
 
     /// A program of a plan, before its instantiation, or the first fault of the plan.
     pub fn new(alloc: Global, plan: Plan<'m>) -> Result<Program<'m>, SetupFault>
@@ -146,6 +146,7 @@ impl<'m> Program<'m> {
             → IfOk result (λ event. (event_of event ≡ ended how) × (self.new ≡ self.old) × (devices.new ≡ devices.old) × (mail.new ≡ mail.old)) }
         ensures ending { (how : End) → ending_in self.old ≡ Some how
             → IfOk result (λ event. (event_of event ≡ ended how) × (self.new ≡ record self.old { state = behind_end how self.old.state }) × (devices.new ≡ devices.old) × (mail.new ≡ mail.old)) }
+        ensures stops { StopsBehindReceive self.old → IfOk result (λ event. StopsBehindReceive self.new × ((r : Await) → receive_in self.old ≡ Some r → call_in (event_of event) ≡ None)) }
         ensures kept { IsErr result → of_all seen devices.new ≡ of_all seen devices.old }
         ensures once { IsErr result → RisesAtMostOne (of_all faults devices.old) (of_all faults devices.new) }
         ensures mail { IsErr result → mail.new ≡ mail.old }
@@ -182,6 +183,8 @@ impl<'m> Program<'m> {
             → IfOk result (λ event. (event_of event ≡ ended how) × (self.new ≡ self.old) × (devices.new ≡ devices.old) × (mail.new ≡ mail.old)) }
         ensures ending { (how : End) → ending_in self.old ≡ Some how
             → IfOk result (λ event. (event_of event ≡ ended how) × (self.new ≡ record self.old { state = behind_end how self.old.state }) × (devices.new ≡ devices.old) × (mail.new ≡ mail.old)) }
+        ensures stops { StopsBehindReceive self.old → parked_in self.old ≡ None
+            → IfOk result (λ event. StopsBehindReceive self.new × ((r : Await) → receive_in self.old ≡ Some r → call_in (event_of event) ≡ None)) }
         ensures kept { IsErr result → of_all seen devices.new ≡ of_all seen devices.old }
         ensures once { IsErr result → RisesAtMostOne (of_all faults devices.old) (of_all faults devices.new) }
         ensures mail { IsErr result → mail.new ≡ mail.old }
@@ -210,6 +213,7 @@ impl<'m> Program<'m> {
         requires { OnItsWay self.old (place_of self.old State.Fresh) State.Fresh }
         ensures next { (w : WorldProgram) (notes : List Note) (os : List Outcome) → FollowsAt w notes os self.old (place_of self.old State.Fresh)
             → IfOk result (λ event. MailAdvances w notes os event (mail_supply_of seen faults self.old devices.old mail.old) (mail_supply_of seen faults self.new devices.new mail.new) self.new) }
+        ensures receives { receive_in self.old ≡ None → IfOk result (λ event. StopsBehindReceive self.new) }
         ensures kept { IsErr result → of_all seen devices.new ≡ of_all seen devices.old }
         ensures once { IsErr result → RisesAtMostOne (of_all faults devices.old) (of_all faults devices.new) }
         ensures mail { IsErr result → mail.new ≡ mail.old }
@@ -233,6 +237,7 @@ impl<'m> Program<'m> {
         ensures next { (w : WorldProgram) (notes : List Note) (os : List Outcome) → code_in instance.entry ≡ module_of self.old.valid.now
             → opening (module_of self.old.valid.now) self.old.globals.items ≡ opens (store_in instance.entry) → FollowsAt w notes os self.old (place_of self.old State.Fresh)
             → IfOk result (λ event. MailAdvances w notes os event (mail_supply_of seen faults self.old devices.old mail.old) (mail_supply_of seen faults self.new devices.new mail.new) self.new) }
+        ensures receives { receive_in self.old ≡ None → IfOk result (λ event. StopsBehindReceive self.new) }
         ensures kept { IsErr result → of_all seen devices.new ≡ of_all seen devices.old }
         ensures once { IsErr result → RisesAtMostOne (of_all faults devices.old) (of_all faults devices.new) }
         ensures mail { IsErr result → mail.new ≡ mail.old }
@@ -245,9 +250,10 @@ impl<'m> Program<'m> {
     }
 
     fn not_opened(&mut self, fault: MakeFault) -> Result<Event, AllocError>
-        ensures { (w : WorldProgram) (notes : List Note) (os : List Outcome) (ds : List Device) (counts : List ℕ) (mail : Mail)
+        ensures next { (w : WorldProgram) (notes : List Note) (os : List Outcome) (ds : List Device) (counts : List ℕ) (mail : Mail)
             → FailsAs (opening (module_of self.old.valid.now) self.old.globals.items) fault → FollowsAt w notes os self.old (place_of self.old State.Fresh)
             → IfOk result (λ event. MailAdvances w notes os event (mail_supply_with self.old ds counts mail) (mail_supply_with self.new ds counts mail) self.new) }
+        ensures stops { IfOk result (λ event. StopsBehindReceive self.new) }
     {
         match fault {
             MakeFault::Memory => Err(AllocError),
@@ -265,6 +271,7 @@ impl<'m> Program<'m> {
             → FollowsAt w notes os self.old (stands (note (ended end) no_store ∷ []) (over no_store))
             → IfOk result (λ event. MailAdvances w notes os event (mail_supply_with self.old ds counts mail) (mail_supply_with self.new ds counts mail) self.new) }
         ensures again { IfOk result (λ event. (event_of event ≡ ended end) × (self.new ≡ record self.old { state = State.Failed end })) }
+        ensures stops { IfOk result (λ event. StopsBehindReceive self.new × (call_in (event_of event) ≡ None)) }
     {
         let told = copy_end(self.setting.alloc, &end)?;
         self.put_state(State::Failed(end));
@@ -286,6 +293,8 @@ impl<'m> Program<'m> {
             × (self.new ≡ record self.old { state = (State.Live instance.entry stage) }) × (devices.new ≡ devices.old) × (mail.new ≡ mail.old)) }
         ensures ending { (how : End) → end_due stage ≡ Some how → IfOk result (λ event. (event_of event ≡ ended how)
             × (self.new ≡ record self.old { state = State.Live instance.entry (Stage.Ended how) }) × (devices.new ≡ devices.old) × (mail.new ≡ mail.old)) }
+        ensures receives { receive_in self.old ≡ None → IfOk result (λ event. StopsBehindReceive self.new) }
+        ensures stops { is_stopping stage ≡ true → is_paused stage ≡ false → IfOk result (λ event. StopsBehindReceive self.new × (call_in (event_of event) ≡ None)) }
         ensures kept { IsErr result → of_all seen devices.new ≡ of_all seen devices.old }
         ensures once { IsErr result → RisesAtMostOne (of_all faults devices.old) (of_all faults devices.new) }
         ensures mail { IsErr result → mail.new ≡ mail.old }
@@ -301,6 +310,7 @@ impl<'m> Program<'m> {
     // The end is told, be it again.
     fn tell_end(&mut self, instance: Instance<'m>, end: End) -> Result<Event, AllocError>
         ensures told { IfOk result (λ event. (event_of event ≡ ended end) × (self.new ≡ record self.old { state = State.Live instance.entry (Stage.Ended end) })) }
+        ensures stops { IfOk result (λ event. StopsBehindReceive self.new × (call_in (event_of event) ≡ None)) }
         ensures next { (w : WorldProgram) (notes : List Note) (os : List Outcome) (ds : List Device) (counts : List ℕ) (mail : Mail)
             → FollowsAt w notes os self.old (place_of self.old (State.Live instance.entry (Stage.Ending end))) → RunsCode w.source (State.Live instance.entry (Stage.Ending end))
             → IfOk result (λ event. MailAdvances w notes os event (mail_supply_with self.old ds counts mail) (mail_supply_with self.new ds counts mail) self.new) }
@@ -323,6 +333,8 @@ impl<'m> Program<'m> {
         ensures next { (w : WorldProgram) (notes : List Note) (os : List Outcome) → FollowsAt w notes os self.old (place_of self.old (State.Live instance.entry stage))
             → RunsCode w.source (State.Live instance.entry stage) → end_of stage ≡ None
             → IfOk result (λ event. MailAdvances w notes os event (mail_supply_of seen faults self.old devices.old mail.old) (mail_supply_of seen faults self.new devices.new mail.new) self.new) }
+        ensures receives { receive_in self.old ≡ None → IfOk result (λ event. StopsBehindReceive self.new) }
+        ensures stops { is_stopping stage ≡ true → is_paused stage ≡ false → IfOk result (λ event. StopsBehindReceive self.new × (call_in (event_of event) ≡ None)) }
         ensures kept { IsErr result → of_all seen devices.new ≡ of_all seen devices.old }
         ensures once { IsErr result → RisesAtMostOne (of_all faults devices.old) (of_all faults devices.new) }
         ensures mail { IsErr result → mail.new ≡ mail.old }
@@ -358,6 +370,7 @@ impl<'m> Program<'m> {
         ensures next { (w : WorldProgram) (notes : List Note) (os : List Outcome) → code_in instance.entry ≡ w.source
             → FollowsAt w notes os self.old (stands [] (starting func (store_in instance.entry) (left_of self.old.left)))
             → IfOk result (λ event. MailAdvances w notes os event (mail_supply_of seen faults self.old devices.old mail.old) (mail_supply_of seen faults self.new devices.new mail.new) self.new) }
+        ensures receives { receive_in self.old ≡ None → IfOk result (λ event. StopsBehindReceive self.new) }
         ensures kept { IsErr result → of_all seen devices.new ≡ of_all seen devices.old }
         ensures once { IsErr result → RisesAtMostOne (of_all faults devices.old) (of_all faults devices.new) }
         ensures mail { IsErr result → mail.new ≡ mail.old }

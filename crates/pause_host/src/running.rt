@@ -1,6 +1,6 @@
 //! What comes of each stage but the pauses: the start function, entries, and calls of imports with their answers.
 
-ghost use Rattle.std.specs.Prelude.{◌≡◌, ◌<◌, ◌≤◌, ◌+◌, ◌-◌, ◌^◌, ℕ, List, [], ◌∷◌, All, Option, IfOk, IsErr, OnOk, None, false, map, slice_get, length};
+ghost use Rattle.std.specs.Prelude.{◌≡◌, ◌<◌, ◌≤◌, ◌+◌, ◌-◌, ◌^◌, ℕ, List, [], ◌∷◌, All, Option, IfOk, IsErr, OnOk, None, false, true, map, slice_get, length};
 ghost use Rattle.std.specs.Option.{option_map, option_to_list};
 ghost use Rattle.wa_types.specs.Modules.{func_imports};
 ghost use Rattle.wa_model.specs.Store.{Store};
@@ -18,8 +18,8 @@ ghost use Rattle.host_laws.specs.Supplies.{RisesAtMostOne};
 ghost use Rattle.pause_host.specs.Holding.{HoldsArea, PokesInside};
 ghost use Rattle.pause_host.specs.Hosting.{AsksOnly, CallsOne, HasMemory, HostsAt, MayAsk, StartRan, StopsFirst};
 ghost use Rattle.pause_host.specs.Mailing.{MailSupply, awaits_in, latest, mail_supply};
-ghost use Rattle.pause_host.specs.Moves.{Asks, Comes, ComesFrom, HasShortPokes, IsAsking, IsSetting, IsTask, NextFrom, NextPauses, PausesSo, PlaceFits, TaskTurn};
-ghost use Rattle.pause_host.specs.Views.{entry_of, free_place, is_paused, left_of, lines_in, place_in, stage_after, starts};
+ghost use Rattle.pause_host.specs.Moves.{Asks, Comes, ComesFrom, HasShortPokes, IsAsking, IsSetting, IsTask, NextFrom, NextPauses, NextStops, PausesSo, PlaceFits, Stops, StopsAtReceive, TaskTurn};
+ghost use Rattle.pause_host.specs.Views.{entry_of, free_place, is_paused, is_stopping, left_of, lines_in, place_in, stage_after, starts};
 
 use crate::asking::{Asked, next_outcome};
 use crate::ends::ends;
@@ -208,6 +208,8 @@ pub(crate) fn told(
         → IfOk result (λ h. ComesFrom w from left_then used h.moved (mail_supply seen faults (lines_in answers.old.items) devices.old mail.old (awaits_in setting.now r))
         (mail_supply seen faults (lines_in answers.new.items) devices.new mail.new (awaits_in setting.now (latest h.receive r))) l (store_in instance.now) (waits_in instance.now)) }
     ensures pauses { IfOk result (λ h. PausesSo h.moved) }
+    ensures receives { IfOk result StopsAtReceive }
+    ensures stops { NextStops next → IfOk result (λ h. Stops h.moved) }
     ensures kept { IsErr result → of_all seen devices.new ≡ of_all seen devices.old }
     ensures once { IsErr result → RisesAtMostOne (of_all faults devices.old) (of_all faults devices.new) }
     ensures mail { IsErr result → mail.new ≡ mail.old }
@@ -243,6 +245,7 @@ fn called(
         (λ x. Comes w h left_then used x.moved (mail_supply seen faults (lines_in answers.old.items) devices.old mail.old (awaits_in setting.now r))
         (mail_supply seen faults (lines_in answers.new.items) devices.new mail.new (awaits_in setting.now (latest x.receive r))) l (store_in instance.now) (waits_in instance.now)) }
     ensures pauses { IfOk result (λ x. PausesSo x.moved) }
+    ensures receives { IfOk result StopsAtReceive }
     ensures kept { IsErr result → of_all seen devices.new ≡ of_all seen devices.old }
     ensures once { IsErr result → RisesAtMostOne (of_all faults devices.old) (of_all faults devices.new) }
     ensures mail { IsErr result → mail.new ≡ mail.old }
@@ -283,6 +286,7 @@ pub(crate) fn answered(
     ensures stage { (w : Program) → IsSetting w setting.now → All IsShort (answer_of answer).pokes
         → result ≡ stage_after (fault_of (option_to_list import.now.result) size w.plan (starts task) number (answer_of answer)) answer.ticks task number answer }
     ensures apart { is_paused result ≡ false }
+    ensures stops { 0 < answer.ticks → is_stopping result ≡ true }
 {
     let call = AnsweredCall {
         import: number,
@@ -319,6 +323,7 @@ fn is_start(task: &Task) -> bool
 fn passed(task: Task, import: u32, answer: Answer) -> Stage
     ensures stage { result ≡ stage_after None answer.ticks task import answer }
     ensures apart { is_paused result ≡ false }
+    ensures stops { 0 < answer.ticks → is_stopping result ≡ true }
 {
     if answer.ticks == 0 {
         return Stage::Answering { task, answer };

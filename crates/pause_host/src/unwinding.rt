@@ -15,7 +15,7 @@ ghost use Rattle.interp.specs.Host.{code_in, store_in, waits_in};
 ghost use Rattle.interp.specs.Instance.{inside, nothing};
 ghost use Rattle.pause_host.specs.Hosting.{HostsAt, HostsIn, HostsOver};
 ghost use Rattle.pause_host.specs.Mailing.{MailSupply};
-ghost use Rattle.pause_host.specs.Moves.{Comes, ComesFrom, IsSetting, PausesSo, PlaceFits};
+ghost use Rattle.pause_host.specs.Moves.{Comes, ComesFrom, IsSetting, PausesSo, PlaceFits, Stops};
 ghost use Rattle.pause_host.specs.Views.{entry_of, pausing, unwinding};
 
 use crate::ends::ended;
@@ -43,6 +43,7 @@ pub fn unwind(
         → IfOk result (λ m. ComesFrom w (pausing (exports_of w.source) w.plan.area l (entry_of pause.entry) pause.import (answer_of pause.answer) (store_in instance.old)
         (waits_in instance.old)) steps.old.left (steps.new.used - steps.old.used) m supply supply l (store_in instance.new) (waits_in instance.new)) }
     ensures pauses { IfOk result PausesSo }
+    ensures stops { IfOk result Stops }
     ensures code { code_in instance.new ≡ code_in instance.old }
     ensures sum { steps.new.left + steps.new.used ≡ steps.old.left + steps.old.used }
     ensures grows { steps.old.used ≤ steps.new.used }
@@ -73,6 +74,7 @@ fn give_zero(
         → IfOk result (λ m. Comes w (busy (unwinding pause) (resumed (record { store = store_in instance.old; here = here; under = under }) (store_in instance.old)
         (zeros_of w.source pause.import)) l) steps.old.left (steps.new.used - steps.old.used) m supply supply l (store_in instance.new) (waits_in instance.new)) }
     ensures pauses { IfOk result PausesSo }
+    ensures stops { IfOk result Stops }
     ensures code { code_in instance.new ≡ code_in instance.old }
     ensures sum { steps.new.left + steps.new.used ≡ steps.old.left + steps.old.used }
     ensures grows { steps.old.used ≤ steps.new.used }
@@ -131,6 +133,7 @@ fn test_unwound(
         → IfOk result (λ m. Comes w (calling (unwinding pause) (store_in instance.old) (exports_of w.source).get_state [] test_unwound l) steps.old.left
         (steps.new.used - steps.old.used) m supply supply l (store_in instance.new) (waits_in instance.new)) }
     ensures pauses { IfOk result PausesSo }
+    ensures stops { IfOk result Stops }
     ensures code { code_in instance.new ≡ code_in instance.old }
     ensures sum { steps.new.left + steps.new.used ≡ steps.old.left + steps.old.used }
     ensures grows { steps.old.used ≤ steps.new.used }
@@ -162,6 +165,7 @@ fn stop_unwind(
         → IfOk result (λ m. Comes w (calling (unwinding pause) (store_in instance.old) (exports_of w.source).stop_unwind [] pause_there l) steps.old.left
         (steps.new.used - steps.old.used) m supply supply l (store_in instance.new) (waits_in instance.new)) }
     ensures pauses { IfOk result PausesSo }
+    ensures stops { IfOk result Stops }
     ensures code { code_in instance.new ≡ code_in instance.old }
     ensures sum { steps.new.left + steps.new.used ≡ steps.old.left + steps.old.used }
     ensures grows { steps.old.used ≤ steps.new.used }

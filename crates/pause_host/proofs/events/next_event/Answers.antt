@@ -1,4 +1,4 @@
-use Rattle.std.proofs.Common.{arith, ◌≡◌, ◌-◌, IfOk, Some, None, sym, ap, ◌∙◌, subst}
+use Rattle.std.proofs.Common.{arith, false, true, ◌≡◌, ◌-◌, IfOk, Some, None, sym, ap, ◌∙◌, subst}
 use Rattle.wa_model.specs.Protocol.{exports_of}
 use Rattle.interp.specs.Host.{code_in, store_in, waits_in}
 use Rattle.pause_host.specs.Views.{end_of, left_of, place_in}
@@ -8,6 +8,7 @@ use Rattle.pause_host.proofs.Callings.{told_inside}
 use Rattle.pause_host.proofs.Hosting.{hosts_stage, memory_there, pausing_waits}
 use Rattle.pause_host.proofs.WhatComes.{ending_next}
 use Rattle.pause_host.specs.declared.stages.Stage.{Stage}
+use Rattle.pause_host.specs.Views.{is_paused, is_stopping}
 use Rattle.pause_host.proofs.events.next_event.Goals as goal
 
 pub returns-in-Free-clause-comes : goal.returns-in-Free-clause-comes
@@ -128,3 +129,15 @@ tell_answer-requires-clause-inside c =
     told_inside c.args.setting.now (code_in c.args.instance.now) (left_of c.args.left.now) (store_in c.args.instance.now) (waits_in c.args.instance.now) c.in-Answering.task c.in-Answering.answer
     (hosts_stage c.args.setting.now (code_in c.args.instance.now) (left_of c.args.left.now) (store_in c.args.instance.now) (waits_in c.args.instance.now) c.args.stage
     (S.Answering c.in-Answering.task c.in-Answering.answer) c.in-Answering.is c.requires.there)
+
+pub returns-in-Free-clause-stops : goal.returns-in-Free-clause-stops
+returns-in-Free-clause-stops c = λ stopping awake. let no : false ≡ true = sym (ap is_stopping c.in-Free.is) ∙ stopping in absurd cc
+
+pub returns-in-Answering-clause-stops : goal.returns-in-Answering-clause-stops
+returns-in-Answering-clause-stops c = λ stopping awake. let no : false ≡ true = sym (ap is_stopping c.in-Answering.is) ∙ stopping in absurd cc
+
+pub returns-in-Giving-clause-stops : goal.returns-in-Giving-clause-stops
+returns-in-Giving-clause-stops c = λ stopping awake. let no : false ≡ true = sym (ap is_stopping c.in-Giving.is) ∙ stopping in absurd cc
+
+pub returns-in_ok-moved-in-Paused-clause-stops : goal.returns-in_ok-moved-in-Paused-clause-stops
+returns-in_ok-moved-in-Paused-clause-stops c = λ stopping awake. let no : true ≡ false = sym (ap is_paused c.in-Paused.is) ∙ awake in absurd cc

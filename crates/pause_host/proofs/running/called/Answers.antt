@@ -14,6 +14,9 @@ use Rattle.pause_host.proofs.Tables.{size_told, stands_at}
 use Rattle.pause_host.proofs.Supplied.{short_answer}
 use Rattle.pause_host.proofs.Askings.{asking_store, asking_start, told_refused, told_answer}
 use Rattle.host_laws.specs.Answering.{outcome_of}
+use Rattle.pause_host.proofs.Stopping.{ticks_waited}
+use Rattle.mail_laws.specs.Mailboxes.{mailed}
+use Rattle.wa_types.specs.declared.values.Value.TheVariants as V
 use Rattle.pause_host.proofs.running.called.Goals as goal
 
 pub returns-in-Refused-clause-comes : goal.returns-in-Refused-clause-comes
@@ -56,3 +59,7 @@ returns-in-Given-clause-comes g c = λ w is code pokes who h l left used r asks 
 
 pub unreachable-requires : goal.unreachable-requires
 unreachable-requires g c = memory_shown (code_in c.args.instance.now) (store_in c.args.instance.now) c.requires.memory c.in_default.ensures
+
+pub returns-in-Given-clause-receives : goal.returns-in-Given-clause-receives
+returns-in-Given-clause-receives g c = λ import is.
+    c.answered-stage.ensures.stops (ticks_waited c.in-Given.answer (ap outcome_of (sym c.in-Given.is) ∙ c.in_ok-met.ensures.waits import is))

@@ -4,6 +4,7 @@ use Rattle.pause_host.specs.Mailing.{awaits_in, latest, mail_supply}
 use Rattle.pause_host.specs.Views.{lines_in}
 use Rattle.pause_host.specs.Hosting.{MayAsk}
 use Rattle.pause_host.specs.Moves.{CallComes, ComesFrom, NextFrom, NextPauses}
+use Rattle.pause_host.specs.Moves.{NextStops}
 use Rattle.pause_host.proofs.running.told.Goals as goal
 
 pub returns-in-Told-clause-comes : goal.returns-in-Told-clause-comes
@@ -32,3 +33,9 @@ called-requires-clause-import g c = (subst (MayAsk c.args.setting.now (store_in 
 
 pub called-requires-clause-area : goal.called-requires-clause-area
 called-requires-clause-area g c = (subst (MayAsk c.args.setting.now (store_in c.args.instance.now)) c.in-Calls.is c.requires.asks).1
+
+pub returns-in-Told-clause-stops : goal.returns-in-Told-clause-stops
+returns-in-Told-clause-stops g c = λ stops. subst NextStops c.in-Told.is stops
+
+pub returns-in-Calls-clause-stops : goal.returns-in-Calls-clause-stops
+returns-in-Calls-clause-stops g c = λ stops. absurd (subst NextStops c.in-Calls.is stops)

@@ -10,6 +10,8 @@ use Rattle.pause_host.specs.declared.program.State.TheVariants.{Live}
 use Rattle.pause_host.specs.Programs.{MailAdvances, mail_supply_of}
 use Rattle.pause_host.proofs.Hosting.{memory_kept, memory_there}
 use Rattle.pause_host.proofs.Advancing.{advanced, same_place, memory_told}
+use Rattle.pause_host.specs.Programs.{StopsBehindReceive}
+use Rattle.pause_host.proofs.Stopping.{heard_stops}
 use Rattle.pause_host.proofs.program.Program.begin.Goals as goal
 
 pub returns-clause-next : goal.returns-clause-next
@@ -50,3 +52,10 @@ pub told-requires-clause-memory : goal.told-requires-clause-memory
 told-requires-clause-memory g c =
     let h = c.requires in
     memory_kept (code_in c.args.instance) (code_in c.start.new.instance) c.start.ensures.code (memory_there h.program c.args.self.now.setting (code_in c.args.instance) h.at.setting h.code)
+
+pub returns-clause-receives : goal.returns-clause-receives
+returns-clause-receives g c = λ none.
+    let x = c.args.self.now in
+    let h = c.in_ok-heard.heard in
+    subst StopsBehindReceive (sym (c.put_state.ensures ∙ ap (λ (z : Program). record z { state = Live c.start.new.instance h.moved.stage }) c.put_receive.ensures))
+    (heard_stops x.setting h x.receive c.in_ok-heard.ensures.receives none)

@@ -12,7 +12,7 @@ returns-in-Ok-clause-next g c = λ w notes os f.
 pub returns-in-Err-clause-next : goal.returns-in-Err-clause-next
 returns-in-Err-clause-next g c = λ w notes os f.
     let p = module_of c.args.self.now.valid.now in
-    c.not_opened.ensures w notes os _ _ _ (subst (λ g. FailsAs (opening p g) c.in-Err.fault) c.deref.ensures.value c.in-Err.ensures.err) f
+    c.not_opened.ensures.next w notes os _ _ _ (subst (λ g. FailsAs (opening p g) c.in-Err.fault) c.deref.ensures.value c.in-Err.ensures.err) f
 
 pub opened-requires-clause-code : goal.opened-requires-clause-code
 opened-requires-clause-code g c = c.in-Ok.ensures.code

@@ -6,6 +6,8 @@ use Rattle.pause_host.specs.Programs.{RunsCode, FollowsAt, place_of, behind_end,
 use Rattle.pause_host.specs.declared.program.State.TheVariants.{Fresh, Live, Lost}
 use Rattle.pause_host.proofs.Advancing.{in_state, ended_stage, on_its_way}
 use Rattle.std.proofs.lemmas.Result.{IfOk-weaker}
+use Rattle.pause_host.specs.Programs.{stops_at}
+use Rattle.pause_host.proofs.Stopping.{live_stops, none_left, stops_behind, stops_behind_none}
 use Rattle.pause_host.proofs.program.Program.step.Goals as goal
 
 pub returns-in-Live-clause-next : goal.returns-in-Live-clause-next
@@ -58,3 +60,17 @@ pub unreachable-requires : goal.unreachable-requires
 unreachable-requires g c =
     let is = sym c.replace.ensures.value ∙ c.in-Lost.is in
     (on_its_way c.args.self.now c.replace.new.dest Lost is (c.requires.goes (ap ends_at is))).at.fits
+
+pub returns-in-Live-clause-stops : goal.returns-in-Live-clause-stops
+returns-in-Live-clause-stops g c = λ quiet awake.
+    let is = sym c.replace.ensures.value ∙ c.in-Live.is in
+    live_stops c.args.self.now c.live.result c.live.new.self c.in-Live.instance c.in-Live.stage is quiet awake c.live.ensures.receives c.live.ensures.stops
+
+pub returns-in-Fresh-clause-stops : goal.returns-in-Fresh-clause-stops
+returns-in-Fresh-clause-stops g c = λ quiet awake.
+    let x = c.args.self.now in
+    let none = none_left x quiet (ap stops_at (sym c.replace.ensures.value ∙ c.in-Fresh.is)) in
+    stops_behind_none x c.open.result c.open.new.self none (c.open.ensures.receives none)
+
+pub returns-in-Failed-clause-stops : goal.returns-in-Failed-clause-stops
+returns-in-Failed-clause-stops g c = λ quiet awake. stops_behind c.args.self.now c.fail.result c.fail.new.self c.fail.ensures.stops

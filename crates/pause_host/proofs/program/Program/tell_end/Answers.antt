@@ -14,6 +14,7 @@ use Rattle.pause_host.specs.declared.stages.Stage.TheVariants.{Ended}
 use Rattle.pause_host.specs.Programs.{MailAdvances, mail_supply_with}
 use Rattle.pause_host.proofs.Advancing.{advanced, memory_told}
 use Rattle.pause_host.proofs.Results.{ending_ok}
+use Rattle.pause_host.specs.Programs.{StopsBehindReceive}
 use Rattle.pause_host.proofs.program.Program.tell_end.Goals as goal
 
 pub returns-clause-next : goal.returns-clause-next
@@ -30,3 +31,6 @@ returns-clause-next c = λ w notes os ds counts mail f code.
     subst (λ (z : Program). MailAdvances w notes os m.event supply (mail_supply_with z ds counts mail) z) (sym c.put_state.ensures)
     (advanced w notes os x x' (stands (note (ended end) s ∷ []) (over s)) (has_ended end) m.event s 0 supply supply f moves refl refl refl refl refl refl (omega arith) refl refl
     (memory_told w x i (Ended end) f.setting code) code refl)
+
+pub returns-clause-stops : goal.returns-clause-stops
+returns-clause-stops c = (subst StopsBehindReceive (sym c.put_state.ensures) (λ r is. refl), refl)
