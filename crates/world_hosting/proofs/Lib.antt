@@ -34,6 +34,3 @@ pub mod NoneParked
 pub mod CountedNotes
 pub mod MailMeets
 pub mod MailCounting
-pub mod MailEvents
-pub mod MailPrinted
-pub mod MailTakes
