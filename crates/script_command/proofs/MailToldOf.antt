@@ -5,7 +5,7 @@ use Rattle.event_order.specs.Left.{Counted}
 use Rattle.mail_laws.proofs.MailOriginals.{mail_worlds_untold}
 use Rattle.world_hosting.specs.MailCounts.{event_count}
 use Rattle.world_hosting.specs.Worlds.{world_programs}
-use Rattle.world_hosting.proofs.MailFaults.{mail_faults_counted}
+use Rattle.world_hosting.proofs.MailCounting.{mail_faults_counted}
 use Rattle.world_hosting.proofs.MailLogs.{mail_devices_logged}
 use Rattle.world_hosting.proofs.MailOriginals.{mail_told_ends, mail_told_of_originals}
 use Rattle.script_command.specs.declared.way.Way.{Way}

@@ -11,13 +11,12 @@ use Rattle.script_model.specs.Script.{MailboxText}
 use Rattle.script_model.specs.Transcript.{Transcript}
 use Rattle.event_order.specs.Left.{Counted}
 use Rattle.many_host.specs.Calls.{devices_of}
-use Rattle.world_hosting.specs.MailCounts.{event_count}
+use Rattle.world_hosting.specs.MailCounts.{ends_event, event_count}
 use Rattle.world_hosting.specs.MailEndings.{EndsOrStalls}
-use Rattle.world_hosting.specs.MailFaults.{with_told_beside}
 use Rattle.world_hosting.specs.MailLogs.{AreLoggedBeside}
 use Rattle.world_hosting.specs.MailOriginalRuns.{TouchesNone}
 use Rattle.world_hosting.specs.MailWorlds.{AreMailBegun, AreMailEnded, AreMailTold}
-use Rattle.world_hosting.specs.FaultCounts.{CountsTo}
+use Rattle.world_hosting.specs.FaultCounts.{CountsTo, with_told_by}
 use Rattle.world_hosting.specs.OriginalRuns.{Source, originals_for}
 use Rattle.world_hosting.specs.Worlds.{world_programs}
 use Rattle.script_command.specs.declared.way.Way.{Way}
@@ -81,7 +80,7 @@ pub record IsMailToldOf {way : Way} {files : Option Files} {name : List ℕ} (pl
   pub told : IsMailTranscript play old new text
   pub originals : OfMailOriginals way files name play old new text told
   pub logs : AreLoggedBeside (boxes_of play) (world_programs play.parts) (detaches_in play.whole) told.lines told.met (devices_of old) (devices_of new)
-  pub faults : AllZip CountsTo (with_told_beside (boxes_of play) (world_programs play.parts) (detaches_in play.whole) 0 0 told.lines old) new
+  pub faults : AllZip CountsTo (with_told_by ends_event (world_programs play.parts) (detaches_in play.whole) 0 0 told.lines old) new
 
 -- ---- with mailboxes and without
 
