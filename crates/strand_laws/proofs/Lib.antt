@@ -37,6 +37,7 @@ pub mod StoryLengths
 pub mod StrandForks
 pub mod StrandLines
 pub mod StrandModules
+pub mod StrandNotes
 pub mod StrandShows
 pub mod StrandStories
 pub mod StrandTails
