@@ -2,6 +2,7 @@ pub mod ActorRows
 pub mod AllByTurns
 pub mod Apart
 pub mod Beginnings
+pub mod BegunTurns
 pub mod Between
 pub mod Blocks
 pub mod ByTurns

@@ -298,7 +298,7 @@ open_closes k (x ∷ xs) rest h c = by x.event h.0 c (open_closes k xs rest h.1)
 -- ---- the turn
 
 module _ (g : StrandsInWorld) (t : ProgramTeller) (known : Known g t) (some : 0 < length g.program.strands) (k : ℕ) (first : IsDueFirst (dues_of t.strands) k) (inside : k < length t.strands)
-    (w : Program) (answers : List AnswerLine) (ds : List Device) where
+    (w : Program) (answers : List AnswerLine) (start : List Note) (ds0 ds : List Device) where
   abbrev base : List (List Outcome)
   base = met_and t.strands []
 
@@ -322,7 +322,8 @@ module _ (g : StrandsInWorld) (t : ProgramTeller) (known : Known g t) (some : 0 
     pub outcomes : List Outcome
     pub left : List AnswerLine
     pub whole : EndsOnce turn
-    pub calls : CallsMeet w turn outcomes answers ds [] left ds
+    pub calls : CallsMeet w turn outcomes answers ds0 [] left ds
+    pub begun : (more : List Note) × (turn ≡ start ++ more)
     pub rest : List Told
     pub story : HeldStrands g (outcomes_with outcomes) ((t.told ++ told_by k turn) ++ rest)
 
@@ -331,7 +332,8 @@ module _ (g : StrandsInWorld) (t : ProgramTeller) (known : Known g t) (some : 0 
     notes : List Note
     rest : List Told
     story : story_of g (outcomes_with os) ≡ (t.told ++ told_by k notes) ++ rest
-    meets : CallsMeet w notes os answers ds [] lines ds
+    meets : CallsMeet w notes os answers ds0 [] lines ds
+    begun : (more : List Note) × (notes ≡ start ++ more)
     count : new_calls notes ≡ length os
     is_open : EndNoTurn notes
     goes_on : 0 < length (told_by k notes ++ rest)
@@ -366,8 +368,9 @@ module _ (g : StrandsInWorld) (t : ProgramTeller) (known : Known g t) (some : 0 
     outcomes = os;
     left = lines;
     whole = ends_behind x.notes f.turn x.is_open f.whole;
-    calls = subst (λ (us : List Outcome). CallsMeet w (x.notes ++ f.turn) us answers ds [] lines ds) (append-nil os)
-        (calls_more w x.notes f.turn os [] answers lines lines ds ds ds x.meets (no_calls w f.turn lines ds none));
+    calls = subst (λ (us : List Outcome). CallsMeet w (x.notes ++ f.turn) us answers ds0 [] lines ds) (append-nil os)
+        (calls_more w x.notes f.turn os [] answers lines lines ds0 ds ds x.meets (no_calls w f.turn lines ds none));
+    begun = (x.begun.0 ++ f.turn, ap (λ (ns : List Note). ns ++ f.turn) x.begun.1 ∙ append_assoc start x.begun.0 f.turn);
     rest = f.rest;
     story = sym (x.story ∙ ap (λ (ts : List Told). (t.told ++ told_by k x.notes) ++ ts) f.split ∙ sym (append_assoc (t.told ++ told_by k x.notes) (told_by k f.turn) f.rest)
         ∙ ap (λ (ts : List Told). ts ++ f.rest) (append_assoc t.told (told_by k x.notes) (told_by k f.turn) ∙ ap (λ (ts : List Told). t.told ++ ts) (sym (told_both k x.notes f.turn))));
@@ -408,12 +411,16 @@ module _ (g : StrandsInWorld) (t : ProgramTeller) (known : Known g t) (some : 0 
         → Sofar (os ++ o ∷ []) left
     goes_so there rest is e = record {
       notes = (x.notes ++ c.before) ++ there ∷ [];
+      begun = (
+        x.begun.0 ++ (c.before ++ there ∷ []),
+        append_assoc x.notes c.before (there ∷ []) ∙ ap (λ (ns : List Note). ns ++ (c.before ++ there ∷ [])) x.begun.1 ∙ append_assoc start x.begun.0 (c.before ++ there ∷ []),
+      );
       rest = rest;
       story = e ∙ sym (append_assoc front (record { strand = k; note = there } ∷ []) rest)
           ∙ ap (λ (ts : List Told). ts ++ rest) (append_assoc t.told (told_by k (x.notes ++ c.before)) (record { strand = k; note = there } ∷ []) ∙ ap (λ (ts : List Told). t.told ++ ts) (sym (told_both k (x.notes ++ c.before) (there ∷ []))));
-      meets = calls_more w (x.notes ++ c.before) (there ∷ []) os (o ∷ []) answers lines left ds ds ds
-          (subst (λ (us : List Outcome). CallsMeet w (x.notes ++ c.before) us answers ds [] lines ds) (append-nil os)
-          (calls_more w x.notes c.before os [] answers lines lines ds ds ds x.meets (no_calls w c.before lines ds c.none))) (one_call w there c.call o lines left ds is m);
+      meets = calls_more w (x.notes ++ c.before) (there ∷ []) os (o ∷ []) answers lines left ds0 ds ds
+          (subst (λ (us : List Outcome). CallsMeet w (x.notes ++ c.before) us answers ds0 [] lines ds) (append-nil os)
+          (calls_more w x.notes c.before os [] answers lines lines ds0 ds ds x.meets (no_calls w c.before lines ds c.none))) (one_call w there c.call o lines left ds is m);
       count =
           let a = calls_on (x.notes ++ c.before) (there ∷ []) in
           let b = calls_on x.notes c.before in
@@ -520,9 +527,16 @@ module _ (g : StrandsInWorld) (t : ProgramTeller) (known : Known g t) (some : 0 
               let l = length-append os (m.0 ∷ []) in
               again (os ++ m.0 ∷ []) m.1 (met_here os lines x f c m.0 m.1 m.2) (omega (arith, le, l))
 
+  -- There is one behind its beginning, where something is still to be told.
+  pub turn_on : (os : List Outcome) (lines : List AnswerLine) (rest : List Told) → HeldStrands g (outcomes_with os) ((t.told ++ told_by k start) ++ rest) → CallsMeet w start os answers ds0 [] lines ds
+      → new_calls start ≡ length os → EndNoTurn start → 0 < length (told_by k start ++ rest) → Next
+  turn_on os lines rest story meets count is_open lt =
+      grows (most_told g) os lines (record { notes = start; rest = rest; story = sym story; meets = meets; begun = ([], sym (append-nil start)); count = count; is_open = is_open; goes_on = lt })
+      (omega arith)
+
   -- There is one, where something is still to be told with whatever outcomes.
-  pub next_turn : (more : List (List Outcome)) (rest : List Told) → HeldStrands g (met_and t.strands more) (t.told ++ rest) → 0 < length rest → Next
-  next_turn more rest story lt =
+  pub next_turn : start ≡ [] → ds ≡ ds0 → (more : List (List Outcome)) (rest : List Told) → HeldStrands g (met_and t.strands more) (t.told ++ rest) → 0 < length rest → Next
+  next_turn none same more rest story lt =
       let small = base_wide t.strands in
       let size = known.size in
       let some_base : 0 < length base = omega (arith, small, size, some) in
@@ -533,7 +547,8 @@ module _ (g : StrandsInWorld) (t : ProgramTeller) (known : Known g t) (some : 0 
         notes = [];
         rest = with_none.0;
         story = with_none.1 ∙ ap (λ (ts : List Told). ts ++ with_none.0) (sym (append-nil t.told));
-        meets = (refl, refl, refl);
+        meets = (refl, refl, same);
+        begun = ([], sym (ap (λ (ns : List Note). ns ++ []) none));
         count = refl;
         is_open = tt;
         goes_on = with_none.2;

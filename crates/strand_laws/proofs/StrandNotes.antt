@@ -30,7 +30,7 @@ module _ {A : Type 0} where
   set_same (z ∷ xs) zero x e = ap (λ (u : A). u ∷ xs) (sym (the_same z x e))
   set_same (z ∷ xs) (suc i) x e = ap (λ (us : List A). z ∷ us) (set_same xs i x e)
 
-map_both : {A B : Type 0} (f : A → B) (xs ys : List A) → map f (xs ++ ys) ≡ map f xs ++ map f ys
+pub map_both : {A B : Type 0} (f : A → B) (xs ys : List A) → map f (xs ++ ys) ≡ map f xs ++ map f ys
 map_both f [] ys = refl
 map_both f (x ∷ xs) ys = ap (λ (us : List _). f x ∷ us) (map_both f xs ys)
 
@@ -266,7 +266,7 @@ turn_ends gs detaches ds ds' es number program strand due lines tellers g t s x 
       ap (λ (ls : List StrandLine). ls ++ shows) h.made ∙ append_assoc h.before (map (line_of due program strand) (events_of h.turn)) shows,
     )
 
-stories_of : (gs : List StrandsInWorld) (ts : List ProgramTeller) → AllZip OnStory gs ts → AllZip HasStory gs ts
+pub stories_of : (gs : List StrandsInWorld) (ts : List ProgramTeller) → AllZip OnStory gs ts → AllZip HasStory gs ts
 stories_of [] [] h = tt
 stories_of [] (t ∷ ts) h = absurd h
 stories_of (g ∷ gs) [] h = absurd h

@@ -80,7 +80,7 @@ none_longer f i (os ∷ oss) h =
     ap (λ (xs : List Outcome). (os ++ xs) ∷ longer_each f (suc i) oss) (h i (omega arith)) ∙ ap (λ (xs : List Outcome). xs ∷ longer_each f (suc i) oss) (append-nil os)
     ∙ ap (λ (xss : List (List Outcome)). os ∷ xss) (none_longer f (suc i) oss (λ j le. h j (omega (arith, le))))
 
-met_with : (f : ℕ → List Outcome) (os : List Outcome) (i k n : ℕ) (ss : List StrandTeller) (s : StrandTeller) (turn : List Note) (answers : _) → n ≡ i + k → f n ≡ os
+pub met_with : (f : ℕ → List Outcome) (os : List Outcome) (i k n : ℕ) (ss : List StrandTeller) (s : StrandTeller) (turn : List Note) (answers : _) → n ≡ i + k → f n ≡ os
     → ((j : ℕ) → (j ≡ n → ⊥) → f j ≡ []) → slice_get ss k ≡ Some s → met_and (slice_set ss k (having_told s turn os answers)) [] ≡ longer_each f i (met_and ss [])
 met_with f os i k n [] s turn answers e is others h = none_is s h
 met_with f os i zero n (u ∷ ss) s turn answers e is others h =
@@ -92,12 +92,12 @@ met_with f os i (suc k) n (u ∷ ss) s turn answers e is others h =
     ap (λ (xs : List Outcome). xs ∷ met_and (slice_set ss k (having_told s turn os answers)) []) (sym (append-nil u.met) ∙ ap (λ (xs : List Outcome). u.met ++ xs) (sym (others i (λ q. let no_way : ⊥ = omega (arith, e, q) in no_way))))
     ∙ ap (λ (xss : List (List Outcome)). (u.met ++ f i) ∷ xss) (met_with f os (suc i) k n ss s turn answers (omega (arith, e)) is others h)
 
-pokes_front : (ss : List Strand) (i : ℕ) (ts : List StrandTeller) (more : List (List Outcome)) → PokesApart ss i (met_and ts more) → PokesApart ss i (met_and ts [])
+pub pokes_front : (ss : List Strand) (i : ℕ) (ts : List StrandTeller) (more : List (List Outcome)) → PokesApart ss i (met_and ts more) → PokesApart ss i (met_and ts [])
 pokes_front ss i [] more h = h
 pokes_front ss i (t ∷ ts) [] h = (h.0, pokes_front ss (suc i) ts [] h.1)
 pokes_front ss i (t ∷ ts) (os ∷ oss) h = (all_front (PokesOff (areas_but i 0 ss)) t.met os h.0, pokes_front ss (suc i) ts oss h.1)
 
-pokes_set : (ss : List Strand) (i k n : ℕ) (ts : List StrandTeller) (s : StrandTeller) (turn : List Note) (os : List Outcome) (answers : _) → n ≡ i + k → slice_get ts k ≡ Some s
+pub pokes_set : (ss : List Strand) (i k n : ℕ) (ts : List StrandTeller) (s : StrandTeller) (turn : List Note) (os : List Outcome) (answers : _) → n ≡ i + k → slice_get ts k ≡ Some s
     → PokesApart ss i (met_and ts []) → All (PokesOff (areas_but n 0 ss)) os → PokesApart ss i (met_and (slice_set ts k (having_told s turn os answers)) [])
 pokes_set ss i k n [] s turn os answers e h p q = none_is s h
 pokes_set ss i zero n (t ∷ ts) s turn os answers e h p q =
@@ -106,11 +106,11 @@ pokes_set ss i zero n (t ∷ ts) s turn os answers e h p q =
 pokes_set ss i (suc k) n (t ∷ ts) s turn os answers e h p q = (p.0, pokes_set ss (suc i) k n ts s turn os answers (omega (arith, e)) h p.1 q)
 
 -- nothing is left
-abbrev is_none : List Told → Bool
+abbrev pub is_none : List Told → Bool
 is_none [] = true
 is_none (t ∷ ts) = false
 
-rest_is : (ts : List Told) → IsRest (is_none ts) ts
+pub rest_is : (ts : List Told) → IsRest (is_none ts) ts
 rest_is [] = refl
 rest_is (t ∷ ts) = omega arith
 
@@ -154,8 +154,8 @@ module _ (gs : List StrandsInWorld) (detaches : List Detach) (some : HaveStrands
     inside : f.k < length f.t.strands
     inside = lies_within f.t.strands f.k f.s f.strand_there
 
-    n : Next g f.t known_here (some_strand gs f.p g some is_program) f.k f.first inside asks f.s.answers es
-    n = next_turn g f.t known_here (some_strand gs f.p g some is_program) f.k f.first inside asks f.s.answers es here.more here.rest here.story (subst (λ b. IsRest b here.rest) f.live_there here.is_rest)
+    n : Next g f.t known_here (some_strand gs f.p g some is_program) f.k f.first inside asks f.s.answers [] es es
+    n = next_turn g f.t known_here (some_strand gs f.p g some is_program) f.k f.first inside asks f.s.answers [] es es refl refl here.more here.rest here.story (subst (λ b. IsRest b here.rest) f.live_there here.is_rest)
 
     abbrev is_last : Bool
     is_last = is_none n.rest
@@ -166,7 +166,7 @@ module _ (gs : List StrandsInWorld) (detaches : List Detach) (some : HaveStrands
     abbrev t' : ProgramTeller
     t' = told_on f.t f.k s' n.turn is_last
 
-    met_is : met_and t'.strands [] ≡ outcomes_with g f.t known_here (some_strand gs f.p g some is_program) f.k f.first inside asks f.s.answers es n.outcomes
+    met_is : met_and t'.strands [] ≡ outcomes_with g f.t known_here (some_strand gs f.p g some is_program) f.k f.first inside asks f.s.answers [] es es n.outcomes
     met_is =
         met_with (λ j. if nat_eq j f.k then n.outcomes else []) n.outcomes 0 f.k f.k f.t.strands f.s n.turn n.left (let z : f.k ≡ 0 + f.k = omega arith in z)
         (ap (λ b. if b then n.outcomes else []) (eq-eqb f.k f.k refl)) (λ j ne. ap (λ b. if b then n.outcomes else []) (ne_eqb j f.k ne)) f.strand_there

@@ -80,9 +80,16 @@ TurnEnds =
     (lines ++ line_of due program strand x.event ∷ map (line_of due program strand) (looks_after (looks_if is_last g.looks) x x.event))
     (slice_set tellers program (told_on t strand (having_told s (x ∷ []) met answers) (x ∷ []) is_last)) es
 
--- Lines of whole turns begin a run of the world, where what each program has told begins its story.
+-- Lines of whole turns begin a run of the world, where what each program has told begins its story,
 abbrev pub ToldStrandsBegin : Type 0
 ToldStrandsBegin =
     (gs : List StrandsInWorld) (detaches : List Detach) (ds : List Device) (count : ℕ) (lines : List StrandLine) (tellers : List ProgramTeller) (ds' : List Device) → HaveStrands gs
     → All LinesApart gs → TellsStrands gs detaches ds count lines tellers ds' → AllZip OnStory gs tellers
+    → (more : List StrandLine) × (last : List Device) × ProtocolStrandWorld gs detaches ds (lines ++ more) last
+
+-- and so do those with the beginning of the next turn.
+abbrev pub BegunStrandsBegin : Type 0
+BegunStrandsBegin =
+    (gs : List StrandsInWorld) (detaches : List Detach) (ds ds' : List Device) (number program strand due : ℕ) (lines : List StrandLine) (tellers : List ProgramTeller) → HaveStrands gs
+    → All LinesApart gs → TellsOnStrands gs detaches ds number program strand due lines tellers ds' → AllZip OnStory gs tellers
     → (more : List StrandLine) × (last : List Device) × ProtocolStrandWorld gs detaches ds (lines ++ more) last

@@ -43,7 +43,9 @@ pub use original_worlds::{
     emitted_strands_stand_in, emitted_world_has_its_lines, strand_stories_are_of_met,
     strand_stories_are_of_originals, strand_worlds_are_of_originals, three_strands_end,
 };
-pub use told_notes::{nothing_is_told, told_strands_begin, turn_begins, turn_ends, turn_goes_on};
+pub use told_notes::{
+    begun_strands_begin, nothing_is_told, told_strands_begin, turn_begins, turn_ends, turn_goes_on,
+};
 pub use told_worlds::{
     all_told_strands_are_a_world, strand_worlds_end, told_strands_are_a_world, told_strands_go_on,
 };

@@ -1,6 +1,6 @@
 //! Worlds of strands as they are told, note by note. Each is the contract of a function that does nothing.
 
-ghost use Rattle.strand_laws.specs.StrandNotes.{NothingTold, ToldStrandsBegin, TurnBegins, TurnEnds, TurnGoesOn};
+ghost use Rattle.strand_laws.specs.StrandNotes.{BegunStrandsBegin, NothingTold, ToldStrandsBegin, TurnBegins, TurnEnds, TurnGoesOn};
 
 /// Before the first turn nothing is told.
 pub fn nothing_is_told()
@@ -26,4 +26,9 @@ pub fn turn_ends()
 /// later calls meet.
 pub fn told_strands_begin()
     ensures { ToldStrandsBegin }
+{}
+
+/// So do those with the beginning of the next turn.
+pub fn begun_strands_begin()
+    ensures { BegunStrandsBegin }
 {}
