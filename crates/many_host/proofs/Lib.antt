@@ -9,6 +9,8 @@ pub mod FewTurns
 pub mod Further
 pub mod KeptTables
 pub mod MetLines
+pub mod MailGot
+pub mod MailHeld
 pub mod Notes
 pub mod Numbers
 pub mod Origins

@@ -27,12 +27,14 @@
 //!
 //! - `told_turns`, `told_notes`: worlds as a host meets them, by turns and by notes.
 //! - `teller`, `settling`, `turn_taking`: programs that tell events, what an event leads to, and `Turns` (`specs/Standing.antt`).
+//! - `mail_turns`: `Turns` of programs with mailboxes (`specs/MailStanding.antt`).
 //! - `hosted`, `saving`, `host`, `laws`: programs of `pause_host` as such, what is saved of them, `Host`, and its law.
 #![tactic(auto)]
 
 mod host;
 mod hosted;
 mod laws;
+mod mail_turns;
 mod saving;
 mod settling;
 mod teller;

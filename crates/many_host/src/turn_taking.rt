@@ -31,15 +31,15 @@ pub(crate) enum Stage {
 /// last had the tick `last`, which is 0 before the first.
 #[derive(Drop)]
 pub struct Turns<T> {
-    alloc: Global,
-    programs: Vec<T>,
-    dues: Vec<Option<u64>>,
-    detaches: Vec<Detach>,
-    shows: Vec<Show>,
-    begun: u64,
-    earlier: u64,
-    last: u64,
-    stage: Stage,
+    pub(crate) alloc: Global,
+    pub(crate) programs: Vec<T>,
+    pub(crate) dues: Vec<Option<u64>>,
+    pub(crate) detaches: Vec<Detach>,
+    pub(crate) shows: Vec<Show>,
+    pub(crate) begun: u64,
+    pub(crate) earlier: u64,
+    pub(crate) last: u64,
+    pub(crate) stage: Stage,
 }
 
 impl<T: Teller + Drop> Turns<T> {
