@@ -8,6 +8,10 @@ pub mod FewLines
 pub mod FewTurns
 pub mod Further
 pub mod KeptTables
+pub mod MailBoxes
+pub mod MailKept
+pub mod MailNotes
+pub mod MailSettled
 pub mod MetLines
 pub mod MailGot
 pub mod MailHeld

@@ -1,10 +1,10 @@
 -- Notes of a turn, with one more.
-use Rattle.std.proofs.Common.{arith, ◌≡◌, ◌+◌, List, [], ◌∷◌, ◌++◌, Option, Some, None, Bool, true, false, ◌||◌, refl, sym, ap, ◌∙◌, subst, append_assoc, append-nil}
+use Rattle.std.proofs.Common.{arith, ◌≡◌, ◌+◌, List, [], ◌∷◌, ◌++◌, Bool, true, false, ◌||◌, refl, sym, ap, ◌∙◌, subst, append_assoc, append-nil}
 use Rattle.std.specs.Prelude.{MatchBool}
-use Rattle.wa_model.specs.Outside.{AnswerLine, Call, Event, called, answered, paused, parked, returned, ended, shown}
+use Rattle.wa_model.specs.Outside.{AnswerLine, Event, called, answered, paused, parked, returned, ended, shown}
 use Rattle.wa_model.specs.Plan.{Outcome}
 use Rattle.wa_model.specs.Blocking.{Note, events_of}
-use Rattle.world_model.specs.World.{Device, Look, Program, CallsMeet, NoteMeets, call_in, ends_turn, is_end, put_off, ticks_in, looks_after, events_with_looks}
+use Rattle.world_model.specs.World.{Look, ends_turn, is_end, put_off, ticks_in, looks_after, events_with_looks}
 use Rattle.many_host.specs.Turns.{Teller, having_told, ends_program, EndsOnce}
 use Rattle.many_host.specs.Notes.{GoesOn}
 

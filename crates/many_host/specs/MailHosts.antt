@@ -1,5 +1,5 @@
 -- What a host of several programs has told where there are mailboxes.
-use Rattle.std.specs.Prelude.{◌≡◌, ℕ, List, [], All, Option, None, Some, Bool, MatchOption, slice_get}
+use Rattle.std.specs.Prelude.{◌≡◌, ℕ, List, All, Option, None, Some, MatchOption, slice_get}
 use Rattle.std.specs.List.{AllZip}
 use Rattle.wa_model.specs.declared.answers.Detach.{Detach}
 use Rattle.wa_model.specs.declared.events.Line.{Line as LineValue}

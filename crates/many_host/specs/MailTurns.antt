@@ -1,5 +1,5 @@
 -- A world with mailboxes as it is told, note by note: so many whole events, and the beginning of the next turn.
-use Rattle.std.specs.Prelude.{◌≡◌, ◌+◌, ◌<◌, ◌^◌, ℕ, suc, List, [], ◌∷◌, ◌++◌, ◌≤◌, map, count_by, nat_eq, All, Some, true, false, slice_get, slice_set}
+use Rattle.std.specs.Prelude.{◌≡◌, ◌+◌, ◌<◌, ◌^◌, ℕ, suc, List, [], ◌++◌, ◌≤◌, map, count_by, nat_eq, All, Some, true, false, slice_get, slice_set}
 use Rattle.std.specs.List.{find}
 use Rattle.wa_model.specs.declared.answers.Detach.{Detach}
 use Rattle.wa_model.specs.Outside.{AnswerLine, Line}

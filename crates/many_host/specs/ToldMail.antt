@@ -1,5 +1,5 @@
 -- Laws of notes that are told one after another where there are mailboxes.
-use Rattle.std.specs.Prelude.{◌≡◌, ◌⊎◌, ◌+◌, ◌≤◌, ℕ, suc, List, [], ◌∷◌, ◌++◌, map, Option, Some, None, Bool, true, false, slice_get, slice_set}
+use Rattle.std.specs.Prelude.{◌≡◌, ◌⊎◌, ◌+◌, ◌≤◌, ℕ, suc, List, [], ◌∷◌, ◌++◌, map, Option, Some, None, true, false, slice_get, slice_set}
 use Rattle.std.specs.List.{AllZip}
 use Rattle.wa_model.specs.declared.answers.Detach.{Detach}
 use Rattle.wa_model.specs.declared.events.End.TheVariants.{Stalled}
@@ -68,7 +68,7 @@ MailTurnEnds =
     (w : Program) (t : Teller) (x : Note) (now : Amid)
     → TellsOnFrom begun programs detaches boxes ds count i due lines tellers now → slice_get programs i ≡ Some w → slice_get tellers i ≡ Some t → ends_turn x.event ≡ true
     → Tells begun programs detaches boxes ds (suc count) (lines ++ line_at due i (told_pause (parks (x ∷ []) now.receive) x.event) ∷ map (line_at due i) (looks_after w.looks x x.event))
-      (tellers_behind i due t x now tellers) (common_of now.devices (mail_behind i (parks (x ∷ []) now.receive) now) due)
+    (tellers_behind i due t x now tellers) (common_of now.devices (mail_behind i (parks (x ∷ []) now.receive) now) due)
     × MailStands boxes (tellers_behind i due t x now tellers) (mail_behind i (parks (x ∷ []) now.receive) now)
 
 -- Where none is due, the first that waits ends there, with what is shown behind it.
@@ -79,7 +79,7 @@ MailStalls =
     → Tells begun programs detaches boxes ds count lines tellers (common_of es mail last) → MailStands boxes tellers mail → slice_get programs i ≡ Some w → slice_get tellers i ≡ Some t
     → waits_at t ≡ Some r → NoneDue (map due_of tellers) → ((j : ℕ) (u : Teller) (q : Await) → slice_get tellers j ≡ Some u → waits_at u ≡ Some q → i ≤ j)
     → Tells begun programs detaches boxes ds (suc count) (lines ++ map (line_at last i) (ended (Stalled r.import) ∷ look_events (store_behind t.told) w.looks))
-      (slice_set tellers i (record t { has_ended = true })) (common_of (detached (suc (begun + count)) detaches es) mail last)
+    (slice_set tellers i (record t { has_ended = true })) (common_of (detached (suc (begun + count)) detaches es) mail last)
     × MailStands boxes (slice_set tellers i (record t { has_ended = true })) mail
 
 -- ---- worlds

@@ -25,7 +25,7 @@
 //!
 //! Nothing is printed here: that is `world_hosting`'s matter.
 //!
-//! - `told_turns`, `told_notes`: worlds as a host meets them, by turns and by notes.
+//! - `told_turns`, `told_notes`, `told_mail`: worlds as a host meets them, by turns and by notes, without and with mailboxes.
 //! - `teller`, `settling`, `turn_taking`: programs that tell events, what an event leads to, and `Turns` (`specs/Standing.antt`).
 //! - `mail_turns`: `Turns` of programs with mailboxes (`specs/MailStanding.antt`).
 //! - `hosted`, `saving`, `host`, `laws`: programs of `pause_host` as such, what is saved of them, `Host`, and its law.
@@ -38,6 +38,7 @@ mod mail_turns;
 mod saving;
 mod settling;
 mod teller;
+mod told_mail;
 mod told_notes;
 mod told_turns;
 mod turn_taking;
@@ -46,5 +47,6 @@ pub use event_order::Show;
 pub use host::Host;
 pub use laws::told_lines_begin_a_world;
 pub use pause_host::{Plan, Program};
+pub use told_mail::notes_with_mail_are_told;
 pub use told_notes::{notes_are_told_in_turn, told_notes_are_of_a_world};
 pub use told_turns::{all_told_is_a_world, told_turns_are_a_world};
