@@ -5,6 +5,7 @@ use Rattle.std.specs.Option.{option_map}
 use Rattle.std.proofs.lemmas.List.{take_all}
 use Rattle.std.proofs.lemmas.Option.{same_Some}
 use Rattle.std.proofs.lemmas.List.Elements.{All-cons, All-head, All-nil, All-tail}
+use Rattle.wa_model.specs.declared.events.End.{End}
 use Rattle.wa_model.specs.Outside.{Event, called, answered, paused, parked, returned, ended, shown}
 use Rattle.wa_model.specs.Blocking.{Note}
 use Rattle.world_model.specs.World as W
@@ -16,7 +17,7 @@ use Rattle.pause_host.specs.declared.program.Program.{Program}
 use Rattle.pause_host.specs.declared.program.State.{State}
 use Rattle.pause_host.specs.declared.program.State.TheVariants as St
 use Rattle.pause_host.specs.declared.stages.Stage.TheVariants as Sg
-use Rattle.pause_host.specs.Programs.{begins_paused, end_at, ended_as, ends_in_pause, is_at_pause, parked_in, place_of, receive_in}
+use Rattle.pause_host.specs.Programs.{begins_paused, behind_end, end_at, ends_at, memory_at, ended_as, ends_in_pause, is_at_pause, parked_in, place_of, receive_in}
 use Rattle.pause_host.specs.Views.{is_pause}
 use Rattle.many_host.specs.Hosts.{has_ended}
 use Rattle.many_host.specs.MailStanding.{Holds, IsFirstParked, IsHeld, has_gone, has_stalled, on_its_way}
@@ -39,6 +40,22 @@ pause_goes x (St.Live i (Sg.Ended how)) e = cc
 
 pub at_pause_goes : (x : Hosted) → is_at_pause x.program.state ≡ true → has_ended x ≡ false
 at_pause_goes x e = ap is_some (pause_goes x.program x.program.state e)
+
+-- ---- programs behind their end
+
+pub ended_behind : (x : Program) (how : End) (s : State) → ends_at s ≡ Some how → is_some (end_at (place_of x (behind_end how s))) ≡ true
+ended_behind x how St.Fresh e = cc
+ended_behind x how (St.Failed other) e = refl
+ended_behind x how St.Lost e = cc
+ended_behind x how (St.Live i stage) e = refl
+
+pub memory_behind : (how : End) (s : State) → memory_at (behind_end how s) ≡ memory_at s
+memory_behind how St.Fresh = refl
+memory_behind how (St.Failed other) = refl
+memory_behind how St.Lost = refl
+memory_behind how (St.Live i stage) = refl
+
+-- ---- notes that end in a pause
 
 pub same_pause : (e : Event) → is_pause e ≡ M.is_pause e
 same_pause (called c) = refl

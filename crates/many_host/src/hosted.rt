@@ -51,8 +51,7 @@ impl<'m> Hosted<'m> {
         requires lent { IsLent }
         requires parked { IsSome (parked_in self.old.program) }
         ensures ends { (r : Await) → receive_in self.old.program ≡ Some r
-            → IfOk result (λ event. (event_of event ≡ ended (Stalled r.import)) × (has_ended self.new ≡ true) × (devices.new ≡ devices.old) × (mail.new ≡ mail.old)) }
-        ensures memory { IfOk result (λ event. memory_of self.new ≡ memory_of self.old) }
+            → IfOk result (λ event. (event_of event ≡ ended (Stalled r.import)) × (has_ended self.new ≡ true) × (memory_of self.new ≡ memory_of self.old) × (devices.new ≡ devices.old) × (mail.new ≡ mail.old)) }
         ensures kept { IsErr result → of_all seen devices.new ≡ of_all seen devices.old }
         ensures once { IsErr result → RisesAtMostOne (of_all faults devices.old) (of_all faults devices.new) }
         ensures same_list { devices.new.list.ghost_name ≡ devices.old.list.ghost_name }

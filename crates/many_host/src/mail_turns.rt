@@ -11,7 +11,7 @@ ghost use Rattle.wa_model.specs.declared.answers.Detach.{Detach};
 ghost use Rattle.pause_host.specs.Programs.{parked_in};
 ghost use Rattle.std.specs.Option.{option_map};
 ghost use Rattle.many_host.specs.Calls.{BegunNext, left_at, AreLeft};
-ghost use Rattle.many_host.specs.MailStanding.{AreParked, CanWait, HaveGot, IsFirstParked, IsTelling, NobodyGoesOn, StandingFrom, TellsLineFrom, TellsNext, due_behind, dues_settled, is_on_its_way, stage_behind, with_waiting};
+ghost use Rattle.many_host.specs.MailStanding.{AllOver, AreParked, CanWait, HaveGot, IsFirstParked, IsTelling, StandingFrom, TellsLineFrom, TellsNext, due_behind, dues_settled, stage_behind, with_waiting};
 ghost use Rattle.many_host.specs.Standing.{InRange, IsDueBy, LooksOut, held_of, latest, most_due, most_ticks};
 
 use crate::hosted::Hosted;
@@ -42,8 +42,8 @@ impl<'m> Turns<Hosted<'m>> {
             → IfOk result (TellsNext begun programs detaches boxes ds lines s.tellers (of_all (λ d. record { device = seen d; faults = faults d }) devices.old)
             (left_at self.old.begun self.new.begun detaches (of_all (λ d. record { device = seen d; faults = faults d }) devices.old))
             (of_all (λ d. record { device = seen d; faults = faults d }) devices.new) mail.old self.new (of_all seen devices.new) mail.new) }
-        ensures none { IfOk result (λ line. MatchOption line (NobodyGoesOn self.old × LooksOut self.old.shows.items self.old.stage)
-            (λ l. NobodyGoesOn self.old → LooksOut self.old.shows.items self.old.stage → ⊥)) }
+        ensures none { IfOk result (λ line. MatchOption line (AllOver self.old × LooksOut self.old.shows.items self.old.stage)
+            (λ l. AllOver self.old → LooksOut self.old.shows.items self.old.stage → ⊥)) }
         ensures begun { IfOk result (λ line. BegunNext self.old.stage self.old.begun self.new.begun line) }
         ensures goes_on { (LooksOut self.old.shows.items self.old.stage → ⊥) → self.new.begun ≡ self.old.begun }
         ensures same { IfOk result (λ line. MatchOption line ((self.new ≡ self.old) × (mail.new ≡ mail.old)) (λ l. Unit {0})) }
@@ -76,7 +76,7 @@ impl<'m> Turns<Hosted<'m>> {
             → IfOk result (TellsNext begun programs detaches boxes ds lines s.tellers (of_all (λ d. record { device = seen d; faults = faults d }) devices.old)
             (left_at self.old.begun self.new.begun detaches (of_all (λ d. record { device = seen d; faults = faults d }) devices.old))
             (of_all (λ d. record { device = seen d; faults = faults d }) devices.new) mail.old self.new (of_all seen devices.new) mail.new) }
-        ensures none { IfOk result (λ line. MatchOption line (NobodyGoesOn self.old) (λ l. NobodyGoesOn self.old → ⊥)) }
+        ensures none { IfOk result (λ line. MatchOption line (AllOver self.old) (λ l. AllOver self.old → ⊥)) }
         ensures begun { IfOk result (λ line. BegunNext Stage.Between self.old.begun self.new.begun line) }
         ensures same { IfOk result (λ line. MatchOption line ((self.new ≡ self.old) × (mail.new ≡ mail.old)) (λ l. Unit {0})) }
         ensures left { (begun : ℕ) (programs : List Program) (detaches : List Detach) (boxes : List (List ℕ)) (ds : List Device) (lines : List WorldLine)
@@ -112,7 +112,7 @@ impl<'m> Turns<Hosted<'m>> {
             → IfOk result (TellsNext begun programs detaches boxes ds lines s.tellers (of_all (λ d. record { device = seen d; faults = faults d }) devices.old)
             (left_at self.old.begun self.new.begun detaches (of_all (λ d. record { device = seen d; faults = faults d }) devices.old))
             (of_all (λ d. record { device = seen d; faults = faults d }) devices.new) mail.old self.new (of_all seen devices.new) mail.new) }
-        ensures none { IfOk result (λ line. MatchOption line (NobodyGoesOn self.old) (λ l. NobodyGoesOn self.old → ⊥)) }
+        ensures none { IfOk result (λ line. MatchOption line (AllOver self.old) (λ l. AllOver self.old → ⊥)) }
         ensures begun { IfOk result (λ line. BegunNext Stage.Between self.old.begun self.new.begun line) }
         ensures same { IfOk result (λ line. MatchOption line ((self.new ≡ self.old) × (mail.new ≡ mail.old)) (λ l. Unit {0})) }
         ensures left { (begun : ℕ) (programs : List Program) (detaches : List Detach) (boxes : List (List ℕ)) (ds : List Device) (lines : List WorldLine)
@@ -175,9 +175,7 @@ impl<'m> Turns<Hosted<'m>> {
         self.stage = next.stage;
         let parked_at = self.programs[turn.program].program.parked_at();
         wait_where_parked(parked_at, turn.program as u32, mail)?;
-        if !is_telling(self.stage) {
-            self.settle_sent(turn.due + 1, mail);
-        }
+        self.settle_sent(turn.due + 1, mail);
         Ok(Line {
             tick: turn.due,
             program: turn.program as u32,
@@ -205,8 +203,8 @@ impl<'m> Turns<Hosted<'m>> {
             → IfOk result (TellsNext begun programs detaches boxes ds lines s.tellers (of_all (λ d. record { device = seen d; faults = faults d }) devices.old)
             (left_at self.old.begun self.new.begun detaches (of_all (λ d. record { device = seen d; faults = faults d }) devices.old))
             (of_all (λ d. record { device = seen d; faults = faults d }) devices.new) mail.old self.new (of_all seen devices.new) mail.new) }
-        ensures none { IfOk result (λ line. MatchOption line (NobodyGoesOn self.old × LooksOut self.old.shows.items (Stage.Showing turn from))
-            (λ l. NobodyGoesOn self.old → LooksOut self.old.shows.items (Stage.Showing turn from) → ⊥)) }
+        ensures none { IfOk result (λ line. MatchOption line (AllOver self.old × LooksOut self.old.shows.items (Stage.Showing turn from))
+            (λ l. AllOver self.old → LooksOut self.old.shows.items (Stage.Showing turn from) → ⊥)) }
         ensures begun { IfOk result (λ line. BegunNext (Stage.Showing turn from) self.old.begun self.new.begun line) }
         ensures goes_on { (LooksOut self.old.shows.items (Stage.Showing turn from) → ⊥) → self.new.begun ≡ self.old.begun }
         ensures same { IfOk result (λ line. MatchOption line ((self.new ≡ self.old) × (mail.new ≡ mail.old)) (λ l. Unit {0})) }
@@ -270,7 +268,7 @@ fn wait_where_parked(
     program: u32,
     mail: &mut Mailboxes,
 ) -> Result<(), AllocError>
-    requires { (name : List ℕ) → option_map (λ name. name.now) parked_at.entry ≡ Some name → CanWait program name mail.old }
+    requires { (name : List ℕ) → option_map (λ name. name.now) parked_at ≡ Some name → CanWait program name mail.old }
     ensures { OnOk result (mail.new ≡ with_waiting program (option_map (λ name. name.now) parked_at.entry) mail.old) }
 {
     let Some(name) = parked_at else {
@@ -296,11 +294,4 @@ fn settle_with_mail(turn: Turn, event: &Event) -> Settled
         },
         _ => settle(turn, event),
     }
-}
-
-// A turn is on its way.
-fn is_telling(stage: Stage) -> bool
-    ensures { result ≡ is_on_its_way stage }
-{
-    matches!(stage, Stage::Telling(_))
 }
