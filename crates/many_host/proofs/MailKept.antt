@@ -1,5 +1,5 @@
 -- What is known of mailboxes stays so from note to note of a turn.
-use Rattle.std.proofs.Common.{arith, ◌≡◌, ◌<◌, ◌≤◌, ◌+◌, ◌^◌, ◌⊎◌, inl, inr, ℕ, List, [], ◌∷◌, ◌++◌, Option, Some, None, Bool, true, false, nat_eq, All, refl, sym, ap, ◌∙◌, subst}
+use Rattle.std.proofs.Common.{arith, ◌≡◌, ◌<◌, ◌≤◌, ◌+◌, ◌^◌, ◌⊎◌, inl, inr, ℕ, List, [], ◌∷◌, ◌++◌, Option, Some, None, Bool, true, false, nat_eq, All, slice_get, refl, sym, ap, ◌∙◌, subst, append_assoc}
 use Rattle.std.specs.List.{find}
 use Rattle.std.proofs.lemmas.Bool.{cases_lt, eqb-true}
 use Rattle.std.proofs.lemmas.List.Elements.{All-tail}
@@ -11,8 +11,9 @@ use Rattle.wa_model.specs.Outside.{AnswerLine, Call}
 use Rattle.wa_model.specs.Plan.{Outcome}
 use Rattle.world_model.specs.World.{Device, Program, base_names, name_at}
 use Rattle.mailbox_device.specs.declared.mailbox.Settled.{Settled}
-use Rattle.mailbox_device.specs.Mail.{Box, IsServed, Mail, at_box, is_box, names_of, received, receiver, sent, sent_past}
+use Rattle.mailbox_device.specs.Mail.{Box, IsServed, Mail, at_box, is_box, names_of, received, receiver, sent, sent_past, waits_at_all}
 use Rattle.mailbox_device.proofs.Orderly.{served_received, served_sent}
+use Rattle.mail_laws.specs.MailWorld.{pauses}
 use Rattle.mail_laws.specs.Told.{Amid, AreSent, Await, IsWaiting, StillWait, Teller}
 use Rattle.mail_laws.proofs.CallsTold.{AreSmall, are_sent, one_where, still_wait, times, times_settled, times_waiting}
 use Rattle.host_laws.specs.Supplies.{bound_to}
@@ -23,15 +24,24 @@ use Rattle.many_host.proofs.MailBoxes.{changed_all, changed_names, changed_times
 
 -- ---- at the beginning of a turn
 
-pub begins_amid : (names : List (List ℕ)) (tellers : List Teller) (mail : Mail) (ds : List Device) → MailStands names tellers mail → SomeDue tellers → MailStandsAmid names tellers (amid_of ds mail None)
+-- who waits at a mailbox has told a pause last
+pub paused_there : (names : List (List ℕ)) (tellers : List Teller) (mail : Mail) → MailStands names tellers mail → (j : ℕ) (t : Teller) → waits_at_all j mail.boxes ≡ 1 → slice_get tellers j ≡ Some t
+    → pauses t.told ≡ true
+paused_there names tellers mail s j t waits there =
+    let w = waits_is j mail.boxes in
+    let x = waiter tellers j mail.boxes s.waiting (omega (arith, w, waits)) in
+    ap (λ (y : Teller). pauses y.told) (same_Some t x.there.t (sym there ∙ x.there.there)) ∙ x.there.paused
+
+pub begins_amid : (names : List (List ℕ)) (tellers : List Teller) (mail : Mail) (ds : List Device) → MailStands names tellers mail → SomeDue tellers
+    → MailStandsAmid names tellers (record (amid_of ds mail None) { settled = [] })
 begins_amid names tellers mail ds s due =
-    let none : (j : ℕ) → times_settled j mail.settled ≡ 0 = λ j. ap (times_settled j) s.unsettled in
     record {
       names_are = s.names_are;
       waiting = s.waiting;
       served = s.once.served;
-      once = λ j. let n = none j in let e = sent_is j mail.settled in let h = s.once.once j in omega (arith, n, e, h);
-      each = λ j t r there waits. let n = none j in let e = sent_is j mail.settled in let h = s.each j t r there waits in omega (arith, n, e, h);
+      once = λ j. let e = sent_is j [] in let h = s.once.once j in omega (arith, e, h);
+      paused = λ j t r there waits. paused_there names tellers mail s j t (s.each j t r there waits) there;
+      each = λ j t r there some behind. let e = sent_is j [] in let h = s.stalled j t r there some behind in omega (arith, e, h);
       live = s.live due;
       empty = λ r e. absurd (let no : None ≡ Some r = e in cc);
     }
@@ -75,6 +85,49 @@ pub takes_moves : (w : Program) (c : Option Call) (old : MailSupply) (os : List 
 takes_moves w None old os new h = as_it_was old.amid new.amid (ap (λ (z : MailSupply). z.amid) h.1)
 takes_moves w (Some c) old os new h = bound_moves w.source c.import c.args (bound_to w c.import) old.lines old.amid h.0 new.lines new.amid h.2.meets
 
+-- ---- what was sent before
+
+-- with these settled in front
+abbrev pub settled_first : List Settled → Amid → Amid
+settled_first ss m = record m { settled = ss ++ m.settled }
+
+module _ (ss : List Settled) where
+  values_behind : (import : ℕ) (name : List ℕ) (vs : List ℕ) (m : Amid) (o : Outcome) (m' : Amid) → AsksValues import name vs m o m' → AsksValues import name vs (settled_first ss m) o (settled_first ss m')
+  values_behind import name [] m o m' h = (h.0, ap (settled_first ss) h.1)
+  values_behind import name (v ∷ vs) m o m' h = (h.0, h.1, ap (settled_first ss) h.2)
+
+  box_behind : (import : ℕ) (name : List ℕ) (args : List Value) (b : Box) (m : Amid) (o : Outcome) (m' : Amid) → AsksBox import name args b m o m'
+      → AsksBox import name args b (settled_first ss m) o (settled_first ss m')
+  box_behind import name [] b m o m' h = values_behind import name b.values m o m' h
+  box_behind import name (V.I32 v ∷ []) b m o m' h = (
+    h.0,
+    h.1,
+    ap (settled_first ss) h.2
+        ∙ (λ k. record { devices = m.devices; boxes = at_box (sent v) name m.boxes; settled = sym (append_assoc ss m.settled (receiver v b.waits)) k; receive = m.receive }),
+  )
+  box_behind import name (V.I32 v ∷ y ∷ ys) b m o m' h = (h.0, ap (settled_first ss) h.1)
+  box_behind import name (V.I64 v ∷ ys) b m o m' h = (h.0, ap (settled_first ss) h.1)
+
+  named_behind : (import : ℕ) (base name : List ℕ) (args : List Value) (found : Option Box) (m : Amid) (o : Outcome) (m' : Amid) → AsksNamed import base name args found m o m'
+      → AsksNamed import base name args found (settled_first ss m) o (settled_first ss m')
+  named_behind import base name args None m o m' h = (h.0, h.1, ap (settled_first ss) h.2)
+  named_behind import base name args (Some b) m o m' h = box_behind import name args b m o m' h
+
+  bound_behind : (p : Module) (import : ℕ) (args : List Value) (bound : Option (List ℕ)) (lines : List AnswerLine) (m : Amid) (o : Outcome) (lines' : List AnswerLine) (m' : Amid)
+      → AsksBound p import args bound lines m o lines' m' → AsksBound p import args bound lines (settled_first ss m) o lines' (settled_first ss m')
+  bound_behind p import args None lines m o lines' m' h = (h.0, ap (settled_first ss) h.1)
+  bound_behind p import args (Some name) lines m o lines' m' h = (named_behind import (name_at (base_names p) import) name args (find (is_box name) m.boxes) m o m' h.0, h.1)
+
+  -- a note takes what it takes whoever was sent a value before
+  pub takes_behind : (w : Program) (c : Option Call) (old : MailSupply) (os : List Outcome) (new : MailSupply) → TakesMail w c old os new
+      → TakesMail w c (record old { amid = settled_first ss old.amid }) os (record new { amid = settled_first ss new.amid })
+  takes_behind w None old os new h = (h.0, ap (λ (z : MailSupply). record z { amid = settled_first ss z.amid }) h.1)
+  takes_behind w (Some c) old os new h = (
+    h.0,
+    h.1,
+    record { meets = bound_behind w.source c.import c.args (bound_to w c.import) old.lines old.amid h.0 new.lines new.amid h.2.meets; counts = h.2.counts },
+  )
+
 -- ---- what stays
 
 past_name : (v : ℕ) (b : Box) (ws : List ℕ) → (sent_past v b ws).name ≡ b.name
@@ -106,7 +159,7 @@ sent_waits tellers (s ∷ ss) j sent h = by (nat_eq j s.program) refl h (sent_wa
     by true e h on = subst (IsWaiting tellers) (sym (eqb-true j s.program e)) sent.0
     by false e h on = on (omega (arith, h))
 
-sent_small : (tellers : List Teller) (ss : List Settled) → AreSent tellers ss → AreSmall ss
+pub sent_small : (tellers : List Teller) (ss : List Settled) → AreSent tellers ss → AreSmall ss
 sent_small tellers [] sent = tt
 sent_small tellers (s ∷ ss) sent = (sent.1, sent_small tellers ss sent.3)
 
@@ -153,13 +206,14 @@ module _ (names : List (List ℕ)) (mid : List Teller) where
         waiting = x.waiting;
         served = x.served;
         once = λ j. let w = waits_is j m'.boxes in let e = sent_is j m'.settled in let t = x.total j in let h = at_once m s j in omega (arith, w, e, t, h);
-        each = λ j t r there waits.
+        paused = s.paused;
+        each = λ j t r there some behind.
             let w = waits_is j m'.boxes in
             let e = sent_is j m'.settled in
             let w2 = waits_is j m.boxes in
             let e2 = sent_is j m.settled in
             let q = x.total j in
-            let h = s.each j t r there waits in
+            let h = s.each j t r there some behind in
             omega (arith, w, e, w2, e2, q, h);
         live = λ j t there some.
             let w = waits_is j m'.boxes in

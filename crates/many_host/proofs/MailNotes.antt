@@ -1,7 +1,8 @@
 -- Notes that are told one after another where there are mailboxes.
-use Rattle.std.proofs.Common.{arith, ◌≡◌, ◌+◌, ◌⊎◌, inl, inr, ℕ, suc, List, [], ◌∷◌, ◌++◌, map, Option, Some, None, Bool, true, false, ◌||◌, if◌then◌else◌, All, slice_get, slice_set, refl, sym, ap, ◌∙◌, subst, append_assoc, append-nil}
+use Rattle.std.proofs.Common.{arith, ◌≡◌, ◌<◌, ◌≤◌, ◌+◌, ◌^◌, ◌⊎◌, inl, inr, ℕ, suc, List, [], ◌∷◌, ◌++◌, map, Option, Some, None, Bool, true, false, ◌||◌, if◌then◌else◌, nat_eq, All, slice_get, slice_set, refl, sym, ap, ◌∙◌, subst, append_assoc, append-nil}
 use Rattle.std.proofs.lemmas.List.{append_cancel_right, map-append, same_from_push, set-set}
 use Rattle.std.proofs.lemmas.List.Elements.{All-cons, All-nil}
+use Rattle.std.proofs.lemmas.Bool.{cases_eq, eq-eqb, ne_eqb}
 use Rattle.std.proofs.lemmas.Option.{same_Some}
 use Rattle.wa_model.specs.declared.answers.Detach.{Detach}
 use Rattle.wa_model.specs.declared.events.End.TheVariants.{Stalled}
@@ -9,24 +10,27 @@ use Rattle.wa_model.specs.Outside.{AnswerLine, Call, Event, Line, called, answer
 use Rattle.wa_model.specs.Plan.{Outcome}
 use Rattle.wa_model.specs.Blocking.{Note, events_of}
 use Rattle.world_model.specs.World.{Device, Look, Program, call_in, detached, ends_turn, events_with_looks, is_end, line_at, look_events, looks_after, put_off, bytes_shown}
-use Rattle.world_laws.proofs.Places.{of_map, set_here, set_same}
+use Rattle.world_laws.proofs.Places.{of_map, set_here, set_same, set_there}
+use Rattle.mailbox_device.specs.declared.mailbox.Settled.{Settled}
 use Rattle.mailbox_device.specs.Mail.{Box, empty_box, names_of}
 use Rattle.mailbox_device.proofs.Orderly.{empty_waits, orderly_empty}
 use Rattle.mail_laws.specs.Mailboxes.{CallsMeet}
 use Rattle.mail_laws.specs.MailWorld.{is_pause, parks, pauses, store_behind, told_pause}
-use Rattle.mail_laws.specs.Told.{Amid, AreSent, Await, IsLeast, Teller, Tells, TellsTurn, begun_amid, due_of, ends_program, having_told, midst_by, number_of, parked_in, pending, promised, settle_all, starting, tells_stall, tells_turn, waits_at}
+use Rattle.mail_laws.specs.Told.{Amid, AreSent, Await, IsLeast, IsWaiting, NotAmong, Teller, Tells, TellsTurn, begun_amid, due_of, ends_program, having_told, if_going, midst_by, parked_in, pending, settle_all, starting, tells_stall, tells_turn, waits_at}
 use Rattle.mail_laws.proofs.GoingOn.{due_is, over_says}
+use Rattle.mail_laws.proofs.CallsTold.{AreSmall, are_sent, not_among, one_here, times_settled}
+use Rattle.mail_laws.proofs.Promises.{not_sent, still_sent}
 use Rattle.mail_laws.proofs.TurnsTold.{Unended, calls_free, ends_once, last_tells}
 use Rattle.pause_host.specs.Mailing.{MailSupply, MetSoFar, TakesMail, amid_of}
 use Rattle.pause_host.proofs.MetSoFar.{one_more_met}
 use Rattle.many_host.specs.Notes.{GoesOn}
-use Rattle.many_host.specs.MailStanding.{MailStands, common_of}
-use Rattle.many_host.specs.MailTurns.{AllWaitThere, MailStandsAmid, TellsOnFrom, WaitsThere}
-use Rattle.many_host.specs.ToldMail.{IsKnown, MailStalls, MailTurnAwake, MailTurnBegins, MailTurnEnds, MailTurnGoesOn, NothingMailTold, mail_behind, tellers_behind}
+use Rattle.many_host.specs.MailStanding.{MailStands, MeetMore, common_of, met_so_far, met_with}
+use Rattle.many_host.specs.MailTurns.{AllWaitThere, TellsOnFrom, WaitsThere}
+use Rattle.many_host.specs.ToldMail.{AllPaused, MailStalls, MailTurnAwake, MailTurnBegins, MailTurnEnds, MailTurnGoesOn, NothingMailTold, mail_behind}
 use Rattle.many_host.proofs.Notes.{goes_on_more, looks_more, off_more, off_none}
-use Rattle.many_host.proofs.MailBoxes.{waits_is}
-use Rattle.many_host.proofs.MailKept.{Kept, begins_amid, kept_on, still_of, takes_moves}
-use Rattle.many_host.proofs.MailSettled.{ends_stand, nowhere, stall_stands}
+use Rattle.many_host.proofs.MailBoxes.{settled_on, waits_is}
+use Rattle.many_host.proofs.MailKept.{Kept, at_once, begins_amid, kept_on, sent_small, sent_waits, settled_first, still_of, takes_behind, takes_moves}
+use Rattle.many_host.proofs.MailSettled.{HasGot, ends_stand, got_at, nowhere, settle_on, settle_out, settle_past, stall_stands}
 
 -- ---- before the first event
 
@@ -54,6 +58,7 @@ nothing_mail_told begun programs detaches boxes ds = (
     waiting = nobody_waits (map starting programs) boxes;
     once = orderly_empty boxes;
     each = λ i t r there waits. absurd (no_await t r (no_start_waits programs i t there) waits);
+    stalled = λ i t r there some behind. absurd (let no : None ≡ Some r = sym (no_start_waits programs i t there) ∙ some in cc);
     live = λ due i t there some. let e = empty_waits i boxes in let never : ⊥ = omega (arith, e, some) in absurd never;
   },
 )
@@ -96,9 +101,7 @@ told_nothing t unfinished awake =
 pub mail_turn_begins : MailTurnBegins
 mail_turn_begins begun programs detaches boxes ds es mail count last i due lines tellers w tells stands program least =
     let d = teller_due tellers i due least.there in
-    let amid : MailStandsAmid boxes tellers (amid_of (detached (suc (begun + count)) detaches es) mail None) =
-    begins_amid boxes tellers mail (detached (suc (begun + count)) detaches es) stands (i, due, least.there) in
-    let none : (j : ℕ) → AreSent tellers mail.settled = λ j. subst (AreSent tellers) (sym stands.unsettled) tt in (
+    let amid = begins_amid boxes tellers mail (detached (suc (begun + count)) detaches es) stands (i, due, least.there) in (
       d.0,
       d.1,
       d.2,
@@ -118,18 +121,9 @@ mail_turn_begins begun programs detaches boxes ds es mail count last i due lines
         goes_on = tt;
         met = [];
         answers = d.0.answers;
-        calls = λ will small keeps. (
-          refl,
-          refl,
-          λ k. record {
-            devices = detached (suc (begun + count)) detaches es;
-            boxes = map (promised will) mail.boxes;
-            settled = map number_of (stands.unsettled k);
-            receive = None;
-          },
-        );
-        sent = none 0;
-        still = still_of boxes tellers (amid_of (detached (suc (begun + count)) detaches es) mail None) amid;
+        calls = λ will small keeps. (refl, refl, refl);
+        sent = tt;
+        still = still_of boxes tellers (record (amid_of (detached (suc (begun + count)) detaches es) mail None) { settled = [] }) amid;
         stands = amid;
         made = sym (append-nil lines);
         after = sym (ap (slice_set tellers i) (told_nothing d.0 d.2 d.3) ∙ set_same tellers i d.0 d.1);
@@ -195,6 +189,18 @@ told_more t turn met more answers last r r' x g =
     ended : ends_program (x ∷ []) ≡ ends_program (turn ++ x ∷ [])
     ended = or_nothing (is_end x.event) ∙ sym (last_tells turn x (goes_unended turn g))
 
+not_last : (i : ℕ) (xs ys : List Settled) → NotAmong i (xs ++ ys) → NotAmong i ys
+not_last i [] ys h = h
+not_last i (x ∷ xs) ys h = not_last i xs ys h.1
+
+small_last : (xs ys : List Settled) → AreSmall (xs ++ ys) → AreSmall ys
+small_last [] ys h = h
+small_last (x ∷ xs) ys h = small_last xs ys h.1
+
+all_paused : (tellers : List Teller) (ss : List Settled) → ((j : ℕ) → 0 < times_settled j ss → (t : Teller) → slice_get tellers j ≡ Some t → pauses t.told ≡ true) → AllPaused tellers ss
+all_paused tellers [] each = tt
+all_paused tellers (s ∷ ss) each = (each s.program (let o = one_here s.program in omega (arith, o)), all_paused tellers ss (λ j some. each j (omega (arith, some))))
+
 -- what is known once a call more is
 known_more : (met : List Outcome) (r r' : Option Await) (more known : List Outcome) → (more ≡ [] → r' ≡ r) → ((more ≡ []) ⊎ ((r ≡ None) × (o : Outcome) × (more ≡ o ∷ [])))
     → (met ++ pending 0 r) ++ more ≡ known ++ pending 0 r' → (new : List Outcome) × (known ≡ met ++ new)
@@ -223,25 +229,43 @@ module _ (begun : ℕ) (programs : List Program) (detaches : List Detach) (boxes
   pub same_program : w ≡ on.w
   same_program = same_Some w on.w (sym program ∙ on.program)
 
+  awake : on.t.receive ≡ None
+  awake = awake_there on.mid i due on.t on.next on.there
+
+  out : NotAmong i now.settled
+  out = not_sent on.mid now.settled i on.t on.there awake on.sent
+
   pub same_teller : t ≡ so_far
-  same_teller = same_Some t so_far (sym there ∙ ap (λ (l : List Teller). slice_get l i) on.after ∙ set_here on.mid i so_far on.t on.there)
+  same_teller =
+      same_Some t so_far
+      (sym there
+      ∙ ap (λ (l : List Teller). slice_get l i) on.after
+      ∙ settle_out (suc due) now.settled (slice_set on.mid i so_far) i out
+      ∙ set_here on.mid i so_far on.t on.there)
+
+  -- the others are told as before the turn, but for those that were sent a value
+  stays : (j : ℕ) → (j ≡ i → ⊥) → NotAmong j now.settled → slice_get tellers j ≡ slice_get on.mid j
+  stays j other apart =
+      ap (λ (l : List Teller). slice_get l j) on.after ∙ settle_out (suc due) now.settled (slice_set on.mid i so_far) j apart ∙ set_there on.mid i j so_far other
 
   kept : Kept boxes on.mid now
   kept = record { stands = on.stands; sent = on.sent }
 
   after : (more : List Outcome) (last : List AnswerLine) (r : Option Await)
-      → slice_set tellers i (having_told t (x ∷ []) more last r) ≡ slice_set on.mid i (having_told on.t turn (on.met ++ more) last r)
+      → slice_set tellers i (having_told t (x ∷ []) more last r) ≡ settle_all (suc due) now.settled (slice_set on.mid i (having_told on.t turn (on.met ++ more) last r))
   after more last r =
       (λ k. slice_set (on.after k) i (having_told (same_teller k) (x ∷ []) more last r))
-      ∙ set-set on.mid i so_far (having_told so_far (x ∷ []) more last r)
-      ∙ ap (slice_set on.mid i) (told_more on.t on.turn on.met more on.answers last now.receive r x on.goes_on)
+      ∙ settle_past (suc due) now.settled (slice_set on.mid i so_far) i (having_told so_far (x ∷ []) more last r) out
+      ∙ ap (settle_all (suc due) now.settled)
+      (set-set on.mid i so_far (having_told so_far (x ∷ []) more last r) ∙ ap (slice_set on.mid i) (told_more on.t on.turn on.met more on.answers last now.receive r x on.goes_on))
 
   made_more : (e : Event) → lines ++ line_at due i e ∷ [] ≡ on.before ++ (map (line_at due i) (events_of on.turn) ++ line_at due i e ∷ [])
   made_more e = ap (λ (l : List Line). l ++ line_at due i e ∷ []) on.made ∙ append_assoc on.before (map (line_at due i) (events_of on.turn)) (line_at due i e ∷ [])
 
   -- ---- a note that goes on
 
-  module _ (met : List Outcome) (old new : MailSupply) (amid : old.amid ≡ now) (same_lines : old.lines ≡ t.answers) (takes : TakesMail w (call_in x.event) old met new)
+  module _ (met : List Outcome) (old new : MailSupply) (ss : List Settled) (amid : old.amid ≡ now) (same_lines : old.lines ≡ t.answers)
+      (settled_is : new.amid.settled ≡ now.settled ++ ss) (takes : TakesMail w (call_in x.event) old met new)
       (free : (call_in x.event ≡ None) ⊎ (t.receive ≡ None)) (quiet : ends_turn x.event ≡ false) where
     takes_now : TakesMail on.w (call_in x.event) (record { lines = on.answers; amid = now; faults = old.faults }) met new
     takes_now =
@@ -288,7 +312,7 @@ module _ (begun : ℕ) (programs : List Program) (detaches : List Detach) (boxes
     k : Kept boxes on.mid new.amid
     k = kept_new (call_in x.event) takes_now free_now
 
-    pub is_known : IsKnown t met next
+    pub is_known : met_so_far t ++ met ≡ met_so_far next
     is_known =
         (λ l. ((same_teller l).met ++ pending 0 (same_teller l).receive) ++ met)
         ∙ append_assoc (on.t.met ++ on.met) (pending 0 now.receive) met
@@ -298,7 +322,7 @@ module _ (begun : ℕ) (programs : List Program) (detaches : List Detach) (boxes
         ∙ ap (λ (l : List Outcome). l ++ pending 0 new.amid.receive) (sym (append_assoc on.t.met on.met news.0))
         ∙ (λ l. ((sym same_teller l).met ++ news.0) ++ pending 0 new.amid.receive)
 
-    pub goes_on_by : TellsOnFrom begun programs detaches boxes ds count i due (lines ++ line_at due i x.event ∷ []) (slice_set tellers i next) new.amid
+    pub goes_on_by : TellsOnFrom begun programs detaches boxes ds count i due (lines ++ line_at due i x.event ∷ []) (settle_all (suc due) ss (slice_set tellers i next)) new.amid
     goes_on_by =
         record {
           before = on.before;
@@ -325,8 +349,73 @@ module _ (begun : ℕ) (programs : List Program) (detaches : List Detach) (boxes
               made_more x.event
               ∙ ap (λ (l : List Line). on.before ++ l)
               (sym (ap (map (line_at due i)) (map-append (λ (y : Note). y.event) on.turn (x ∷ [])) ∙ map-append (line_at due i) (events_of on.turn) (x.event ∷ [])));
-          after = after news.0 new.lines new.amid.receive;
+          after =
+              ap (settle_all (suc due) ss) (after news.0 new.lines new.amid.receive)
+              ∙ sym (settle_on (suc due) now.settled ss (slice_set on.mid i (having_told on.t turn (on.met ++ news.0) new.lines new.amid.receive)))
+              ∙ ap (λ (l : List Settled). settle_all (suc due) l (slice_set on.mid i (having_told on.t turn (on.met ++ news.0) new.lines new.amid.receive))) (sym settled_is);
         }
+
+    -- ---- those that it sends a value
+
+    all_sent : AreSent on.mid (now.settled ++ ss)
+    all_sent = subst (AreSent on.mid) settled_is k.sent
+
+    once : (j : ℕ) → times_settled j now.settled + times_settled j ss ≤ 1
+    once j = let o = at_once boxes on.mid new.amid k.stands j in let e = ap (times_settled j) settled_is in let s = settled_on j now.settled ss in omega (arith, o, e, s)
+
+    waited : (j : ℕ) → 0 < times_settled j ss → IsWaiting on.mid j
+    waited j some = sent_waits on.mid (now.settled ++ ss) j all_sent (let s = settled_on j now.settled ss in omega (arith, s, some))
+
+    pub apart : NotAmong i ss
+    apart = not_last i now.settled ss (not_sent on.mid (now.settled ++ ss) i on.t on.there awake all_sent)
+
+    -- they are told as before the turn
+    stays_sent : (j : ℕ) → 0 < times_settled j ss → slice_get tellers j ≡ slice_get on.mid j
+    stays_sent j some = stays j other (not_among j now.settled (let o = once j in omega (arith, o, some)))
+      where
+        other : j ≡ i → ⊥
+        other same =
+            let q = waited j some in
+            let is : on.t ≡ q.t = same_Some on.t q.t (sym on.there ∙ ap (slice_get on.mid) (sym same) ∙ q.there) in
+            let no : None ≡ Some q.r = sym awake ∙ ap (λ (y : Teller). y.receive) is ∙ q.waits in
+            cc
+
+    pub are_sent_now : AreSent tellers ss
+    are_sent_now =
+        are_sent tellers ss (λ j. let o = once j in omega (arith, o))
+        (λ j some. let q = waited j some in record { t = q.t; r = q.r; there = stays_sent j some ∙ q.there; unfinished = q.unfinished; waits = q.waits })
+        (small_last now.settled ss (sent_small on.mid (now.settled ++ ss) all_sent))
+
+    pub paused_now : AllPaused tellers ss
+    paused_now =
+        all_paused tellers ss
+        (λ j some u eu. let q = waited j some in
+        let is : u ≡ q.t = same_Some u q.t (sym eu ∙ stays_sent j some ∙ q.there) in
+        ap (λ (y : Teller). pauses y.told) is ∙ on.stands.paused j q.t q.r q.there (λ l. if_going (q.unfinished l) (q.waits l)))
+
+    base_sent : AreSent (slice_set tellers i next) ss
+    base_sent = still_sent tellers ss i next apart are_sent_now
+
+    pub meets_now : MeetMore i met tellers (settle_all (suc due) ss (slice_set tellers i next))
+    meets_now j u u' eu eu' = by (cases_eq j i)
+      where
+        by : (j ≡ i) ⊎ (j ≡ i → ⊥) → (value : ℕ) × (value < 2 ^ 32) × (met_so_far u' ≡ met_with value u ++ (if nat_eq j i then met else []))
+        by (inl same) =
+            let was : u ≡ t = same_Some u t (sym eu ∙ ap (slice_get tellers) same ∙ there) in
+            let is : u' ≡ next =
+            same_Some u' next (sym eu' ∙ ap (slice_get (settle_all (suc due) ss (slice_set tellers i next))) same ∙ settle_out (suc due) ss (slice_set tellers i next) i apart ∙ set_here tellers i next t there) in (
+              0,
+              omega arith,
+              ap met_so_far is ∙ sym is_known ∙ (λ l. met_so_far (sym was l) ++ (if sym (eq-eqb j i same) l then met else [])),
+            )
+        by (inr other) = by_got (got_at (suc due) ss (slice_set tellers i next) j u u' base_sent (set_there tellers i j next other ∙ eu) eu')
+          where
+            none_more : (value : ℕ) → met_with value u ≡ met_with value u ++ (if nat_eq j i then met else [])
+            none_more value = sym (append-nil (met_with value u)) ∙ (λ l. met_with value u ++ (if sym (ne_eqb j i other) l then met else []))
+
+            by_got : (u' ≡ u) ⊎ HasGot (suc due) u u' → (value : ℕ) × (value < 2 ^ 32) × (met_so_far u' ≡ met_with value u ++ (if nat_eq j i then met else []))
+            by_got (inl is) = (0, omega arith, ap met_so_far is ∙ none_more 0)
+            by_got (inr g) = (g.value, g.small, ap met_so_far g.is ∙ append-nil (u.met ++ pending g.value (Some g.r)) ∙ ap (λ (o : Option Await). u.met ++ pending g.value o) (sym g.receive) ∙ none_more g.value)
 
   -- ---- the last note
 
@@ -336,7 +425,7 @@ module _ (begun : ℕ) (programs : List Program) (detaches : List Detach) (boxes
   abbrev last_here : Teller
   last_here = having_told on.t turn (on.met ++ []) on.answers now.receive
 
-  after_last : slice_set tellers i last ≡ slice_set on.mid i last_here
+  after_last : slice_set tellers i last ≡ settle_all (suc due) now.settled (slice_set on.mid i last_here)
   after_last = ap (λ (l : List AnswerLine). slice_set tellers i (having_told t (x ∷ []) [] l now.receive)) (ap (λ (y : Teller). y.answers) same_teller) ∙ after [] on.answers now.receive
 
   abbrev parking : Option Await
@@ -387,7 +476,7 @@ module _ (begun : ℕ) (programs : List Program) (detaches : List Detach) (boxes
       ∙ (λ l. map (λ (e : Event). line_at (sym on.due_is l) i (told_pause (sym parks_so l) e)) (events_with_looks (same_program l).looks turn))
 
   module _ (ends : ends_turn x.event ≡ true) where
-    told_now : TellsTurn programs detaches (suc (begun + count)) on.mid on.c (map (line_at due i) (events_of on.turn) ++ last_lines) (tellers_behind i due t x now tellers)
+    told_now : TellsTurn programs detaches (suc (begun + count)) on.mid on.c (map (line_at due i) (events_of on.turn) ++ last_lines) (slice_set tellers i last)
         (common_of now.devices (mail_behind i parking now) due)
     told_now =
         record {
@@ -409,12 +498,13 @@ module _ (begun : ℕ) (programs : List Program) (detaches : List Detach) (boxes
           still = on.still;
           made = made_is;
           after =
-              ap (settle_all (suc due) now.settled) (after_last ∙ ap (λ (l : List Outcome). slice_set on.mid i (having_told on.t turn l on.answers now.receive)) (append-nil on.met))
+              after_last
+              ∙ ap (λ (l : List Outcome). settle_all (suc due) now.settled (slice_set on.mid i (having_told on.t turn l on.answers now.receive))) (append-nil on.met)
               ∙ ap (λ (n : ℕ). settle_all (suc n) now.settled (slice_set on.mid i (having_told on.t turn on.met on.answers now.receive))) (sym on.due_is);
           common = λ l. record { devices = now.devices; boxes = parked_in i (sym parks_so l) now.boxes; tick = sym on.due_is l };
         }
 
-    pub ends_by : Tells begun programs detaches boxes ds (suc count) (lines ++ last_lines) (tellers_behind i due t x now tellers) (common_of now.devices (mail_behind i parking now) due)
+    pub ends_by : Tells begun programs detaches boxes ds (suc count) (lines ++ last_lines) (slice_set tellers i last) (common_of now.devices (mail_behind i parking now) due)
     ends_by = (
       on.before,
       map (line_at due i) (events_of on.turn) ++ last_lines,
@@ -425,23 +515,61 @@ module _ (begun : ℕ) (programs : List Program) (detaches : List Detach) (boxes
       ap (λ (l : List Line). l ++ last_lines) on.made ∙ append_assoc on.before (map (line_at due i) (events_of on.turn)) last_lines,
     )
 
-    pub stands_by : MailStands boxes (tellers_behind i due t x now tellers) (mail_behind i parking now)
+    pub stands_by : MailStands boxes (slice_set tellers i last) (mail_behind i parking now)
     stands_by =
-        subst (λ (l : List Teller). MailStands boxes (settle_all (suc due) now.settled l) (mail_behind i parking now)) (sym after_last)
-        (ends_stand boxes on.mid i on.t on.there (awake_there on.mid i due on.t on.next on.there) now on.stands on.sent (suc due) last_here x.event ends refl (last_tells on.turn x (goes_unended on.turn on.goes_on))
-        (λ p. ap pauses (sym (append_assoc on.t.told on.turn (x ∷ []))) ∙ pauses_more (on.t.told ++ on.turn) x ∙ p))
+        subst (λ (l : List Teller). MailStands boxes l (mail_behind i parking now)) (sym after_last)
+        (ends_stand boxes on.mid i on.t on.there awake now on.stands on.sent (suc due) last_here x.event ends refl (last_tells on.turn x (goes_unended on.turn on.goes_on))
+        (ap pauses (sym (append_assoc on.t.told on.turn (x ∷ []))) ∙ pauses_more (on.t.told ++ on.turn) x))
+
+  pub last_meets : MeetMore i [] tellers (slice_set tellers i last)
+  last_meets j u u' eu eu' = (0, omega arith, by (cases_eq j i) ∙ sym (none (nat_eq j i)))
+    where
+      none : (b : Bool) → met_so_far u ++ (if b then [] else []) ≡ met_so_far u
+      none true = append-nil (met_so_far u)
+      none false = append-nil (met_so_far u)
+
+      by : (j ≡ i) ⊎ (j ≡ i → ⊥) → met_so_far u' ≡ met_so_far u
+      by (inl same) =
+          let was : u ≡ t = same_Some u t (sym eu ∙ ap (slice_get tellers) same ∙ there) in
+          let is : u' ≡ last = same_Some u' last (sym eu' ∙ ap (slice_get (slice_set tellers i last)) same ∙ set_here tellers i last t there) in
+          ap met_so_far is
+          ∙ (λ l. append-nil t.met l ++ pending 0 now.receive)
+          ∙ ap (λ (o : Option Await). t.met ++ pending 0 o) (ap (λ (y : Teller). y.receive) (sym same_teller))
+          ∙ ap met_so_far (sym was)
+      by (inr other) = ap met_so_far (same_Some u' u (sym eu' ∙ set_there tellers i j last other ∙ eu))
 
 pub mail_turn_goes_on : MailTurnGoesOn
-mail_turn_goes_on begun programs detaches boxes ds count i due lines tellers w t x met old new on program there same takes free quiet = (
-  (news begun programs detaches boxes ds count i due lines tellers w t x old.amid on program there met old new refl same takes free quiet).0,
-  is_known begun programs detaches boxes ds count i due lines tellers w t x old.amid on program there met old new refl same takes free quiet,
-  goes_on_by begun programs detaches boxes ds count i due lines tellers w t x old.amid on program there met old new refl same takes free quiet,
-)
+mail_turn_goes_on begun programs detaches boxes ds count i due lines tellers sent w t x met old new on program there same none takes free quiet =
+    record {
+      known = (news begun programs detaches boxes ds count i due lines tellers w t x now on program there met old' new' new.amid.settled first same refl behind free quiet).0;
+      is_known = is_known begun programs detaches boxes ds count i due lines tellers w t x now on program there met old' new' new.amid.settled first same refl behind free quiet;
+      on = goes_on_by begun programs detaches boxes ds count i due lines tellers w t x now on program there met old' new' new.amid.settled first same refl behind free quiet;
+      are_sent = are_sent_now begun programs detaches boxes ds count i due lines tellers w t x now on program there met old' new' new.amid.settled first same refl behind free quiet;
+      paused = paused_now begun programs detaches boxes ds count i due lines tellers w t x now on program there met old' new' new.amid.settled first same refl behind free quiet;
+      apart = apart begun programs detaches boxes ds count i due lines tellers w t x now on program there met old' new' new.amid.settled first same refl behind free quiet;
+      meets = meets_now begun programs detaches boxes ds count i due lines tellers w t x now on program there met old' new' new.amid.settled first same refl behind free quiet;
+    }
+  where
+    now : Amid
+    now = record old.amid { settled = sent }
+
+    old' : MailSupply
+    old' = record old { amid = settled_first sent old.amid }
+
+    new' : MailSupply
+    new' = record new { amid = settled_first sent new.amid }
+
+    first : old'.amid ≡ now
+    first = λ k. record old.amid { settled = (ap (λ (l : List Settled). sent ++ l) none ∙ append-nil sent) k }
+
+    behind : TakesMail w (call_in x.event) old' met new'
+    behind = takes_behind sent w (call_in x.event) old met new takes
 
 pub mail_turn_ends : MailTurnEnds
 mail_turn_ends begun programs detaches boxes ds count i due lines tellers w t x now on program there ends = (
   ends_by begun programs detaches boxes ds count i due lines tellers w t x now on program there ends,
   stands_by begun programs detaches boxes ds count i due lines tellers w t x now on program there ends,
+  last_meets begun programs detaches boxes ds count i due lines tellers w t x now on program there,
 )
 
 -- ---- none is due

@@ -1,7 +1,8 @@
 -- What is known of mailboxes stays so behind a turn, and where a program that waits ends.
-use Rattle.std.proofs.Common.{arith, ◌≡◌, ◌<◌, ◌≤◌, ◌+◌, ◌⊎◌, inl, inr, ℕ, List, [], ◌∷◌, map, Option, Some, None, Bool, true, false, if◌then◌else◌, nat_eq, All, slice_get, slice_set, refl, sym, ap, ◌∙◌}
+use Rattle.std.proofs.Common.{arith, ◌≡◌, ◌<◌, ◌≤◌, ◌+◌, ◌^◌, ◌⊎◌, inl, inr, ℕ, List, [], ◌∷◌, ◌++◌, map, Option, Some, None, Bool, true, false, if◌then◌else◌, nat_eq, All, slice_get, slice_set, refl, sym, ap, ◌∙◌}
 use Rattle.std.specs.Option.{unwrap_or}
 use Rattle.std.proofs.lemmas.Bool.{cases_eq, cases_lt, eqb-true}
+use Rattle.std.proofs.lemmas.List.{set_comm}
 use Rattle.std.proofs.lemmas.List.Elements.{All-append, All-cons, All-nil}
 use Rattle.std.proofs.lemmas.Option.{same_Some}
 use Rattle.wa_model.specs.Outside.{Event, called, answered, paused, parked, returned, ended, shown}
@@ -27,6 +28,57 @@ settle_out due [] tellers j out = refl
 settle_out due (s ∷ ss) tellers j out =
     settle_out due ss (slice_set tellers s.program (having_got due s.value (unwrap_or (slice_get tellers s.program) no_teller))) j out.1
     ∙ set_there tellers s.program j (having_got due s.value (unwrap_or (slice_get tellers s.program) no_teller)) out.0
+
+-- some behind others
+pub settle_on : (due : ℕ) (xs ys : List Settled) (tellers : List Teller) → settle_all due (xs ++ ys) tellers ≡ settle_all due ys (settle_all due xs tellers)
+settle_on due [] ys tellers = refl
+settle_on due (x ∷ xs) ys tellers = settle_on due xs ys (slice_set tellers x.program (having_got due x.value (unwrap_or (slice_get tellers x.program) no_teller)))
+
+-- a program that is sent nothing may be told otherwise before or behind
+pub settle_past : (due : ℕ) (ss : List Settled) (tellers : List Teller) (i : ℕ) (t : Teller) → NotAmong i ss
+    → slice_set (settle_all due ss tellers) i t ≡ settle_all due ss (slice_set tellers i t)
+settle_past due [] tellers i t out = refl
+settle_past due (s ∷ ss) tellers i t out =
+    settle_past due ss (slice_set tellers s.program got) i t out.1
+    ∙ ap (settle_all due ss) (set_comm tellers s.program i got t (λ e. out.0 (sym e)))
+    ∙ ap (λ (o : Option Teller). settle_all due ss (slice_set (slice_set tellers i t) s.program (having_got due s.value (unwrap_or o no_teller))))
+    (sym (set_there tellers i s.program t (λ e. out.0 (sym e))))
+  where
+    got : Teller
+    got = having_got due s.value (unwrap_or (slice_get tellers s.program) no_teller)
+
+-- A program that waited has got a value.
+pub record HasGot (due : ℕ) (t t' : Teller) : Type 0 where
+  pub r : Await
+  pub value : ℕ
+  pub small : value < 2 ^ 32
+  pub receive : t.receive ≡ Some r
+  pub is : t' ≡ having_got due value t
+
+-- what each program is told as, once those that were sent a value have got it
+pub got_at : (due : ℕ) (ss : List Settled) (tellers : List Teller) (j : ℕ) (t t' : Teller) → AreSent tellers ss → slice_get tellers j ≡ Some t → slice_get (settle_all due ss tellers) j ≡ Some t'
+    → (t' ≡ t) ⊎ HasGot due t t'
+got_at due [] tellers j t t' sent e e' = inl (same_Some t' t (sym e' ∙ e))
+got_at due (s ∷ ss) tellers j t t' sent e e' =
+    by (cases_eq j s.program) (λ there. got_at due ss (slice_set tellers s.program got) j t t' (still_sent tellers ss s.program got sent.2 sent.3) there e')
+  where
+    got : Teller
+    got = having_got due s.value (unwrap_or (slice_get tellers s.program) no_teller)
+
+    by : (j ≡ s.program) ⊎ (j ≡ s.program → ⊥) → (slice_get (slice_set tellers s.program got) j ≡ Some t → (t' ≡ t) ⊎ HasGot due t t') → (t' ≡ t) ⊎ HasGot due t t'
+    by (inr other) on = on (set_there tellers s.program j got other ∙ e)
+    by (inl same) on =
+        let here : slice_get (settle_all due ss (slice_set tellers s.program got)) s.program ≡ Some got =
+        settle_out due ss (slice_set tellers s.program got) s.program sent.2 ∙ set_here tellers s.program got sent.0.t sent.0.there in
+        let is : t' ≡ got = same_Some t' got (sym e' ∙ ap (slice_get (settle_all due ss (slice_set tellers s.program got))) same ∙ here) in
+        let was : sent.0.t ≡ t = same_Some sent.0.t t (sym sent.0.there ∙ ap (slice_get tellers) (sym same) ∙ e) in
+        inr (record {
+          r = sent.0.r;
+          value = s.value;
+          small = sent.1;
+          receive = ap (λ (x : Teller). x.receive) (sym was) ∙ sent.0.waits;
+          is = is ∙ ap (λ (o : Option Teller). having_got due s.value (unwrap_or o no_teller)) (ap (slice_get tellers) (sym same) ∙ e);
+        })
 
 -- who is sent a value waits no more
 pub got_none : (due : ℕ) (ss : List Settled) (tellers : List Teller) (j : ℕ) (t : Teller) → AreSent tellers ss → 0 < times_settled j ss → slice_get (settle_all due ss tellers) j ≡ Some t
@@ -61,14 +113,18 @@ park_some (returned i v) o r h = absurd (let no : None ≡ Some r = h in cc)
 park_some (ended how) o r h = absurd (let no : None ≡ Some r = h in cc)
 park_some (shown i v) o r h = absurd (let no : None ≡ Some r = h in cc)
 
-park_none : (e : Event) (o : Option Await) (r : Await) → ends_turn e ≡ true → park_by e o ≡ None → if_going (is_end e) o ≡ Some r → ⊥
-park_none (paused ticks used) o r q h w = let no : None ≡ Some r = sym h ∙ w in cc
-park_none (called c) o r q h w = cc
-park_none (answered v) o r q h w = cc
-park_none (parked u) o r q h w = cc
-park_none (returned i v) o r q h w = cc
-park_none (ended how) o r q h w = let no : None ≡ Some r = w in cc
-park_none (shown i v) o r q h w = cc
+park_none : (e : Event) (o : Option Await) (r : Await) → is_pause e ≡ true → park_by e o ≡ None → o ≡ Some r → ⊥
+park_none e o r p h w = let no : None ≡ Some r = sym h ∙ (λ k. if p k then o else None) ∙ w in cc
+
+-- what ends a turn and no program is a pause
+pause_by : (e : Event) (o : Option Await) (r : Await) → ends_turn e ≡ true → if_going (is_end e) o ≡ Some r → is_pause e ≡ true
+pause_by (paused ticks used) o r q w = refl
+pause_by (called c) o r q w = absurd cc
+pause_by (answered v) o r q w = absurd cc
+pause_by (parked u) o r q w = absurd cc
+pause_by (returned i v) o r q w = absurd cc
+pause_by (ended how) o r q w = absurd (let no : None ≡ Some r = w in cc)
+pause_by (shown i v) o r q w = absurd cc
 
 -- the program of a turn waited nowhere
 pub nowhere : (names : List (List ℕ)) (mid : List Teller) (i : ℕ) (t0 : Teller) → slice_get mid i ≡ Some t0 → t0.receive ≡ None → (now : Amid) → MailStandsAmid names mid now
@@ -84,7 +140,7 @@ nowhere names mid i t0 there awake now s = by (cases_lt 0 (times_waiting i now.b
 
 module _ (names : List (List ℕ)) (mid : List Teller) (i : ℕ) (t0 : Teller) (there : slice_get mid i ≡ Some t0) (awake : t0.receive ≡ None)
     (now : Amid) (s : MailStandsAmid names mid now) (sent : AreSent mid now.settled) (due : ℕ) (next : Teller) (e : Event) (ends : ends_turn e ≡ true)
-    (receive_is : next.receive ≡ now.receive) (ended_is : next.has_ended ≡ is_end e) (paused_is : is_pause e ≡ true → pauses next.told ≡ true) where
+    (receive_is : next.receive ≡ now.receive) (ended_is : next.has_ended ≡ is_end e) (paused_is : pauses next.told ≡ is_pause e) where
   abbrev base : List Teller
   base = slice_set mid i next
 
@@ -128,11 +184,8 @@ module _ (names : List (List ℕ)) (mid : List Teller) (i : ℕ) (t0 : Teller) (
     waiting : AllWaitThere behind boxes
     others : (j : ℕ) → (j ≡ i → ⊥) → times_waiting j boxes ≡ times_waiting j now.boxes
     once : times_waiting i boxes ≤ 1
-    each : (r : Await) → waits_at next ≡ Some r → times_waiting i boxes ≡ 1
+    each : (r : Await) → next.receive ≡ Some r → is_pause e ≡ true → times_waiting i boxes ≡ 1
     live : 0 < times_waiting i boxes → next.has_ended ≡ false
-
-  going_by : (r : Await) → waits_at next ≡ Some r → if_going (is_end e) now.receive ≡ Some r
-  going_by r h = (λ k. if_going (sym ended_is k) (sym receive_is k)) ∙ h
 
   joined : (p : Option Await) → park_by e now.receive ≡ p → Joined (parked_in i p now.boxes) p
   joined None is = record {
@@ -141,7 +194,7 @@ module _ (names : List (List ℕ)) (mid : List Teller) (i : ℕ) (t0 : Teller) (
     waiting = still_there;
     others = λ j other. refl;
     once = let n = no_place in omega (arith, n);
-    each = λ r h. absurd (park_none e now.receive r ends is (going_by r h));
+    each = λ r h p. absurd (park_none e now.receive r p is (sym receive_is ∙ h));
     live = λ some. let n = no_place in let never : ⊥ = omega (arith, n, some) in absurd never;
   }
   joined (Some r) is =
@@ -161,11 +214,11 @@ module _ (names : List (List ℕ)) (mid : List Teller) (i : ℕ) (t0 : Teller) (
               there = next_there;
               receive = receive_is ∙ k.2;
               box = sym (found_name r.box now.boxes box.0 box.1);
-              paused = paused_is k.0;
+              paused = paused_is ∙ k.0;
             }) (All-nil (WaitsThere behind box.0.name))));
         others = λ j other. let c = come j in let n = never_other j i other in omega (arith, c, n);
         once = let c = come i in let o = once_itself i in let n = no_place in omega (arith, c, o, n);
-        each = λ q h. let c = come i in let o = once_itself i in let n = no_place in omega (arith, c, o, n);
+        each = λ q h p. let c = come i in let o = once_itself i in let n = no_place in omega (arith, c, o, n);
         live = λ some. ended_is ∙ k.1;
       }
 
@@ -176,6 +229,7 @@ module _ (names : List (List ℕ)) (mid : List Teller) (i : ℕ) (t0 : Teller) (
     waiting = x.waiting;
     once = record { served = x.served; once = once };
     each = each;
+    stalled = stalled;
     live = λ due. live;
   }
     where
@@ -202,35 +256,49 @@ module _ (names : List (List ℕ)) (mid : List Teller) (i : ℕ) (t0 : Teller) (
               ap (λ (y : Teller). y.has_ended) is ∙ x.live (omega (arith, w, e, some))
           by w (inr other) = let o = x.others j other in live_still j t et (omega (arith, w, o, some))
 
-      each : (j : ℕ) (t : Teller) (r : Await) → slice_get behind j ≡ Some t → waits_at t ≡ Some r → waits_at_all j boxes ≡ 1
-      each j t r et h = let w = waits_is j boxes in by w (settle_at due now.settled base j t base_sent et)
+      some_receive : (t : Teller) (r : Await) → t.receive ≡ Some r → t.receive ≡ None → ⊥
+      some_receive t r some none = let no : None ≡ Some r = sym none ∙ some in cc
+
+      is_next : (j : ℕ) (t : Teller) → slice_get behind j ≡ Some t → j ≡ i → t ≡ next
+      is_next j t et same = same_Some t next (sym et ∙ ap (slice_get behind) same ∙ next_there)
+
+      stalled : (j : ℕ) (t : Teller) (r : Await) → slice_get behind j ≡ Some t → t.receive ≡ Some r → pauses t.told ≡ true → waits_at_all j boxes ≡ 1
+      stalled j t r et some last = let w = waits_is j boxes in by w (settle_at due now.settled base j t base_sent et)
         where
-          waits_still : (t.receive ≡ None → ⊥) → 0 < times_settled j now.settled → ⊥
-          waits_still some sent = some (got_none due now.settled base j t base_sent sent et)
-
-          some_receive : t.receive ≡ None → ⊥
-          some_receive none = let no : None ≡ Some r = sym none ∙ (over_says t.has_ended t.receive r h).1 in cc
-
           there_still : waits_at_all j boxes ≡ times_waiting j boxes → slice_get base j ≡ Some t → (j ≡ i) ⊎ (j ≡ i → ⊥) → waits_at_all j boxes ≡ 1
           there_still w q (inl same) =
               let e = ap (λ (k : ℕ). times_waiting k boxes) same in
-              let is : t ≡ next = same_Some t next (sym et ∙ ap (slice_get behind) same ∙ next_there) in
-              let o = x.each r (sym (ap waits_at is) ∙ h) in
+              let is = is_next j t et same in
+              let o = x.each r (ap (λ (y : Teller). y.receive) (sym is) ∙ some) (sym paused_is ∙ ap (λ (y : Teller). pauses y.told) (sym is) ∙ last) in
               omega (arith, w, e, o)
           there_still w q (inr other) = by_sent (cases_lt 0 (times_settled j now.settled))
             where
               by_sent : (0 < times_settled j now.settled) ⊎ (times_settled j now.settled ≤ 0) → waits_at_all j boxes ≡ 1
-              by_sent (inl some) = absurd (waits_still some_receive some)
+              by_sent (inl got) = absurd (some_receive t r some (got_none due now.settled base j t base_sent got et))
               by_sent (inr none) =
-                  let a = s.each j t r (sym (set_there mid i j next other) ∙ q) h in
+                  let a = s.each j t r (sym (set_there mid i j next other) ∙ q) some last in
                   let v = waits_is j now.boxes in
                   let u = sent_is j now.settled in
                   let o = x.others j other in
                   omega (arith, w, a, v, u, o, none)
 
           by : waits_at_all j boxes ≡ times_waiting j boxes → (slice_get base j ≡ Some t) ⊎ Got due base j t → waits_at_all j boxes ≡ 1
-          by w (inr g) = absurd (some_receive (ap (λ (y : Teller). y.receive) g.is))
+          by w (inr g) = absurd (some_receive t r some (ap (λ (y : Teller). y.receive) g.is))
           by w (inl q) = there_still w q (cases_eq j i)
+
+      -- who waits has told a pause last
+      has_paused : (j : ℕ) (t : Teller) (r : Await) → slice_get behind j ≡ Some t → waits_at t ≡ Some r → pauses t.told ≡ true
+      has_paused j t r et h = by (settle_at due now.settled base j t base_sent et) (cases_eq j i)
+        where
+          by : (slice_get base j ≡ Some t) ⊎ Got due base j t → (j ≡ i) ⊎ (j ≡ i → ⊥) → pauses t.told ≡ true
+          by (inr g) c = absurd (some_receive t r (over_says t.has_ended t.receive r h).1 (ap (λ (y : Teller). y.receive) g.is))
+          by (inl q) (inr other) = s.paused j t r (sym (set_there mid i j next other) ∙ q) h
+          by (inl q) (inl same) =
+              let is = is_next j t et same in
+              ap (λ (y : Teller). pauses y.told) is ∙ paused_is ∙ pause_by e now.receive r ends ((λ k. if_going (sym ended_is k) (sym receive_is k)) ∙ ap waits_at (sym is) ∙ h)
+
+      each : (j : ℕ) (t : Teller) (r : Await) → slice_get behind j ≡ Some t → waits_at t ≡ Some r → waits_at_all j boxes ≡ 1
+      each j t r et h = stalled j t r et (over_says t.has_ended t.receive r h).1 (has_paused j t r et h)
 
 -- ---- where none is due
 
@@ -252,6 +320,7 @@ module _ (names : List (List ℕ)) (tellers : List Teller) (mail : Mail) (s : Ma
     waiting = moved tellers rest mail.boxes (λ j name some w. waits j name w (cases_eq j i)) s.waiting;
     once = s.once;
     each = λ j u r eu h. each j u r eu h (cases_eq j i);
+    stalled = λ j u r eu some last. behind j u r eu some last (cases_eq j i);
     live = λ due. absurd (never due);
   }
     where
@@ -273,6 +342,12 @@ module _ (names : List (List ℕ)) (tellers : List Teller) (mail : Mail) (s : Ma
       each j u r eu h (inl same) =
           let is : u ≡ stalled = same_Some u stalled (sym eu ∙ ap (slice_get rest) same ∙ set_here tellers i stalled t there) in
           absurd (let no : None ≡ Some r = ap waits_at (sym is) ∙ h in cc)
+
+      behind : (j : ℕ) (u : Teller) (r : Await) → slice_get rest j ≡ Some u → u.receive ≡ Some r → pauses u.told ≡ true → (j ≡ i) ⊎ (j ≡ i → ⊥) → waits_at_all j mail.boxes ≡ 1
+      behind j u r eu some last (inr other) = s.stalled j u r (sym (set_there tellers i j stalled other) ∙ eu) some last
+      behind j u r eu some last (inl same) =
+          let is : u ≡ stalled = same_Some u stalled (sym eu ∙ ap (slice_get rest) same ∙ set_here tellers i stalled t there) in
+          s.stalled j t r (ap (slice_get tellers) same ∙ there) (ap (λ (y : Teller). y.receive) (sym is) ∙ some) (ap (λ (y : Teller). pauses y.told) (sym is) ∙ last)
 
       never : SomeDue rest → ⊥
       never due = by (of_map due_of rest due.0 (Some due.1) due.2) (cases_eq due.0 i)

@@ -1,6 +1,6 @@
 -- Several programs of a world with mailboxes, as they are held between two lines.
-use Rattle.std.specs.Prelude.{◌≡◌, ◌⊎◌, ◌<◌, ◌≤◌, ℕ, suc, ◌+◌, List, [], ◌∷◌, ◌++◌, All, length, map, drop, if◌then◌else◌, nat_eq, Option, Some, None, Bool, true, false, IsSome, MatchOption, slice_get, slice_set}
-use Rattle.std.specs.List.{AllZip, find}
+use Rattle.std.specs.Prelude.{◌≡◌, ◌<◌, ◌≤◌, ◌^◌, ℕ, suc, ◌+◌, List, [], ◌∷◌, ◌++◌, All, length, map, drop, if◌then◌else◌, nat_eq, Option, Some, None, Bool, true, false, IsSome, MatchOption, slice_get, slice_set}
+use Rattle.std.specs.List.{find}
 use Rattle.wa_types.specs.declared.values.Value.TheVariants as V
 use Rattle.wa_model.specs.declared.answers.Detach.{Detach}
 use Rattle.wa_model.specs.declared.events.Line.{Line as LineValue}
@@ -17,9 +17,9 @@ use Rattle.event_order.specs.Looks.{looks_of}
 use Rattle.mailbox_device.specs.declared.mailbox.Settled.{Settled}
 use Rattle.mailbox_device.specs.Mail.{Box, IsOrderly, Mail, WaitsNowhere, at_box, awaited, is_box, names_of, waits_at_all}
 use Rattle.mail_laws.specs.Mailboxes.{mailed}
-use Rattle.mail_laws.specs.MailWorld.{ProtocolWorldFrom, begins_over, store_behind}
+use Rattle.mail_laws.specs.MailWorld.{begins_over, pauses, store_behind}
 use Rattle.mail_laws.specs.Told.{Await, Common, HasStory, HaveEnded, NoneDue, Teller, Tells, due_of, ends_program, pending, starting, waits_at}
-use Rattle.pause_host.specs.Mailing.{MailAnswers, MailSupply, amid_of}
+use Rattle.pause_host.specs.Mailing.{MailAnswers, amid_of}
 use Rattle.pause_host.specs.Programs.{Follows, StopsBehindReceive, lines_left, parked_in, receive_in}
 use Rattle.many_host.specs.Calls.{devices_of, faults_of}
 use Rattle.many_host.specs.Hosts.{has_ended, memory_of}
@@ -34,6 +34,10 @@ use Rattle.many_host.specs.declared.turn_taking.Turns.{Turns}
 -- What the calls of a program met as far as it is known: for a receive that wasn't answered a zero stands.
 abbrev pub met_so_far : Teller → List Outcome
 met_so_far t = t.met ++ pending 0 t.receive
+
+-- .. and with the answer that it got, or gets, to that receive
+abbrev pub met_with : (value : ℕ) → Teller → List Outcome
+met_with value t = t.met ++ pending value t.receive
 
 -- a program has told these notes, its calls met these outcomes, these answer lines are left, and this is its receive that wasn't answered
 abbrev pub follows : Hosted → Program → List Note → List Outcome → List AnswerLine → Option Await → Type 0
@@ -79,6 +83,7 @@ pub record MailStands (names : List (List ℕ)) (tellers : List Teller) (mail : 
   pub waiting : AllWaitThere tellers mail.boxes
   pub once : IsOrderly mail.boxes
   pub each : (i : ℕ) (t : Teller) (r : Await) → slice_get tellers i ≡ Some t → waits_at t ≡ Some r → waits_at_all i mail.boxes ≡ 1
+  pub stalled : (i : ℕ) (t : Teller) (r : Await) → slice_get tellers i ≡ Some t → t.receive ≡ Some r → pauses t.told ≡ true → waits_at_all i mail.boxes ≡ 1
   pub live : SomeDue tellers → (i : ℕ) (t : Teller) → slice_get tellers i ≡ Some t → 0 < waits_at_all i mail.boxes → t.has_ended ≡ false
 
 -- what the programs share between two events
@@ -132,14 +137,11 @@ pub record IsTelling (h : Held Hosted) (last : ℕ) (ds' : List Device) (mail : 
 
 -- ---- the next line
 
--- An outcome as it is known later: the same, or the answer of a receive for which a zero stood.
-abbrev pub IsKnownAs : Outcome → Outcome → Type 0
-IsKnownAs o o' = (o' ≡ o) ⊎ ((o ≡ mailed (Some (V.I32 0)) 1) × (value : ℕ) × (o' ≡ mailed (Some (V.I32 value)) 1))
-
--- What each program's calls have met is what they had, as it is known now, and those of the program of this number met these outcomes behind.
+-- What each program's calls have met is what they had, as it is known then, and those of the program of this number met these outcomes behind.
 abbrev pub MeetMore : (program : ℕ) → List Outcome → (tellers tellers' : List Teller) → Type 0
 MeetMore program met tellers tellers' =
-    (i : ℕ) (t t' : Teller) → slice_get tellers i ≡ Some t → slice_get tellers' i ≡ Some t' → AllZip IsKnownAs (met_so_far t ++ (if nat_eq i program then met else [])) (met_so_far t')
+    (i : ℕ) (t t' : Teller) → slice_get tellers i ≡ Some t → slice_get tellers' i ≡ Some t'
+    → (value : ℕ) × (value < 2 ^ 32) × (met_so_far t' ≡ met_with value t ++ (if nat_eq i program then met else []))
 
 -- What a new call takes of devices and mailboxes, or of the program's answer lines, or of what it waits for. (Who is sent a value by it goes on with
 -- that at once.)

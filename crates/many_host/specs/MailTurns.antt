@@ -10,7 +10,7 @@ use Rattle.mailbox_device.specs.declared.mailbox.Settled.{Settled}
 use Rattle.mailbox_device.specs.Mail.{Box, IsServed, is_box, names_of, waits_at_all}
 use Rattle.mail_laws.specs.Mailboxes.{CallsMeet}
 use Rattle.mail_laws.specs.MailWorld.{pauses}
-use Rattle.mail_laws.specs.Told.{Amid, AreSent, Await, Common, IsLeast, KeepsPromises, StillWait, Teller, Tells, begun_amid, due_of, having_told, midst_by, pending, waits_at}
+use Rattle.mail_laws.specs.Told.{Amid, AreSent, Await, Common, IsLeast, KeepsPromises, StillWait, Teller, Tells, begun_amid, due_of, having_told, midst_by, pending, settle_all, waits_at}
 use Rattle.many_host.specs.Notes.{GoesOn}
 
 -- ---- who waits
@@ -32,15 +32,16 @@ AllWaitThere tellers boxes = All (λ (b : Box). All (WaitsThere tellers b.name) 
 abbrev pub times_sent : (program : ℕ) → List Settled → ℕ
 times_sent program settled = count_by (λ (s : Settled). nat_eq program s.program) settled
 
--- In the midst of a turn the mailboxes have these names; the programs that wait at them did so where they wait, and each that waited before the
--- turn waits still or was sent a value, once; no value is queued where one waits, or where the turn's program received and found none; and none
--- of those that wait has ended.
+-- In the midst of a turn the mailboxes have these names; the programs that wait at them did so where they wait, before the turn, and haven't ended; each
+-- that waited before the turn waits still or was sent a value, once; and no value is queued where one waits, or where the turn's program received
+-- and found none.
 pub record MailStandsAmid (names : List (List ℕ)) (tellers : List Teller) (now : Amid) : Type 0 where
   pub names_are : names_of now.boxes ≡ names
   pub waiting : AllWaitThere tellers now.boxes
   pub served : All IsServed now.boxes
   pub once : (i : ℕ) → waits_at_all i now.boxes + times_sent i now.settled ≤ 1
-  pub each : (i : ℕ) (t : Teller) (r : Await) → slice_get tellers i ≡ Some t → waits_at t ≡ Some r → waits_at_all i now.boxes + times_sent i now.settled ≡ 1
+  pub paused : (i : ℕ) (t : Teller) (r : Await) → slice_get tellers i ≡ Some t → waits_at t ≡ Some r → pauses t.told ≡ true
+  pub each : (i : ℕ) (t : Teller) (r : Await) → slice_get tellers i ≡ Some t → t.receive ≡ Some r → pauses t.told ≡ true → waits_at_all i now.boxes + times_sent i now.settled ≡ 1
   pub live : (i : ℕ) (t : Teller) → slice_get tellers i ≡ Some t → 0 < waits_at_all i now.boxes → t.has_ended ≡ false
   pub empty : (r : Await) → now.receive ≡ Some r → (b : Box) × (find (is_box r.box) now.boxes ≡ Some b) × (b.values ≡ [])
 
@@ -48,7 +49,7 @@ pub record MailStandsAmid (names : List (List ℕ)) (tellers : List Teller) (now
 
 -- Behind so many whole events the program of this place, which was due at this tick, tells the next: it has told notes of it, and none
 -- that ends it. The detaches with the event's number came before, and this is what the programs share then. Its calls meet what they do
--- whatever is promised to those that go on waiting. (Other events had begun before all of these.)
+-- whatever is promised to those that go on waiting, and those that were sent a value have got it. (Other events had begun before all of these.)
 pub record TellsOnFrom (begun : ℕ) (programs : List Program) (detaches : List Detach) (boxes : List (List ℕ)) (ds : List Device) (count i due : ℕ) (lines : List Line) (tellers : List Teller)
     (now : Amid) : Type 0 where
   pub before : List Line
@@ -71,4 +72,4 @@ pub record TellsOnFrom (begun : ℕ) (programs : List Program) (detaches : List 
   pub still : StillWait now.boxes now.settled
   pub stands : MailStandsAmid boxes mid now
   pub made : lines ≡ before ++ map (line_at due i) (events_of turn)
-  pub after : tellers ≡ slice_set mid i (having_told t turn met answers now.receive)
+  pub after : tellers ≡ settle_all (suc due) now.settled (slice_set mid i (having_told t turn met answers now.receive))

@@ -8,12 +8,13 @@ use Rattle.wa_model.specs.Plan.{Outcome}
 use Rattle.wa_model.specs.Blocking.{Note}
 use Rattle.world_model.specs.World.{Device, Program, call_in, detached, ends_turn, line_at, look_events, looks_after}
 use Rattle.event_order.specs.declared.shows.Show.{Show}
+use Rattle.mailbox_device.specs.declared.mailbox.Settled.{Settled}
 use Rattle.mailbox_device.specs.Mail.{Mail, WaitsNowhere, empty_mail}
-use Rattle.mail_laws.specs.MailWorld.{ProtocolWorldFrom, parks, store_behind, told_pause}
-use Rattle.mail_laws.specs.Told.{Amid, Await, HasStory, HaveEnded, IsLeast, NoneDue, Teller, Tells, due_of, having_told, parked_in, settle_all, starting, waits_at}
+use Rattle.mail_laws.specs.MailWorld.{ProtocolWorldFrom, parks, pauses, store_behind, told_pause}
+use Rattle.mail_laws.specs.Told.{Amid, AreSent, Await, HasStory, HaveEnded, IsLeast, NoneDue, NotAmong, Teller, Tells, due_of, having_told, parked_in, settle_all, starting, waits_at}
 use Rattle.pause_host.specs.Mailing.{MailSupply, TakesMail, amid_of}
 use Rattle.many_host.specs.MailHosts.{HaveMet}
-use Rattle.many_host.specs.MailStanding.{Holds, MailStands, common_of, met_so_far}
+use Rattle.many_host.specs.MailStanding.{Holds, MailStands, MeetMore, common_of, met_so_far}
 use Rattle.many_host.specs.MailTurns.{TellsOnFrom}
 use Rattle.many_host.specs.declared.hosted.Hosted.{Hosted}
 
@@ -23,28 +24,49 @@ NothingMailTold =
     (begun : ℕ) (programs : List Program) (detaches : List Detach) (boxes : List (List ℕ)) (ds : List Device)
     → Tells begun programs detaches boxes ds 0 [] (map starting programs) (common_of ds (empty_mail boxes) 0) × MailStands boxes (map starting programs) (empty_mail boxes)
 
--- behind whole events the next turn begins, of the program with the least pair of due tick and number, which is awake and waits nowhere,
+-- behind whole events the next turn begins, of the program with the least pair of due tick and number, which is awake,
 abbrev pub MailTurnBegins : Type 0
 MailTurnBegins =
     (begun : ℕ) (programs : List Program) (detaches : List Detach) (boxes : List (List ℕ)) (ds es : List Device) (mail : Mail) (count last i due : ℕ) (lines : List Line) (tellers : List Teller)
     (w : Program)
     → Tells begun programs detaches boxes ds count lines tellers (common_of es mail last) → MailStands boxes tellers mail → slice_get programs i ≡ Some w → IsLeast (map due_of tellers) i due
     → (t : Teller) × (slice_get tellers i ≡ Some t) × (t.has_ended ≡ false) × (t.receive ≡ None)
-    × TellsOnFrom begun programs detaches boxes ds count i due lines tellers (amid_of (detached (suc (begun + count)) detaches es) mail None)
+    × TellsOnFrom begun programs detaches boxes ds count i due lines tellers (record (amid_of (detached (suc (begun + count)) detaches es) mail None) { settled = [] })
 
--- What a program's calls have met is known as far as it can be: with these outcomes more it knows as many more, but for a receive that isn't answered.
-abbrev pub IsKnown : Teller → List Outcome → (next : Teller) → Type 0
-IsKnown t met next = met_so_far t ++ met ≡ met_so_far next
+-- the program of a turn with one note more, whose call met outcomes of which these are known, and left these answer lines and this receive
+abbrev pub with_note : Teller → Note → (known : List Outcome) → MailSupply → Teller
+with_note t x known new = having_told t (x ∷ []) known new.lines new.amid.receive
+
+-- all of them behind it: those that it sent a value have got it
+abbrev pub with_turn_note : (program due : ℕ) → Teller → Note → (known : List Outcome) → MailSupply → List Teller → List Teller
+with_turn_note i due t x known new tellers = settle_all (suc due) new.amid.settled (slice_set tellers i (with_note t x known new))
+
+-- the last note of each program that is sent a value was a pause
+abbrev pub AllPaused : List Teller → List Settled → Type 0
+AllPaused tellers [] = Unit {0}
+AllPaused tellers (s ∷ ss) = ((t : Teller) → slice_get tellers s.program ≡ Some t → pauses t.told ≡ true) × AllPaused tellers ss
+
+-- A turn, which had sent these values, goes on by the note, whose call met these outcomes and left this: of the outcomes all are known but that of a
+-- receive that isn't answered yet. Whom it sends a value waited, and isn't the program itself.
+pub record GoesOnBy (begun : ℕ) (programs : List Program) (detaches : List Detach) (boxes : List (List ℕ)) (ds : List Device) (count i due : ℕ) (lines : List Line) (tellers : List Teller)
+    (sent : List Settled) (t : Teller) (x : Note) (met : List Outcome) (new : MailSupply) : Type 0 where
+  pub known : List Outcome
+  pub is_known : met_so_far t ++ met ≡ met_so_far (with_note t x known new)
+  pub on : TellsOnFrom begun programs detaches boxes ds count i due (lines ++ line_at due i x.event ∷ []) (with_turn_note i due t x known new tellers)
+      (record new.amid { settled = sent ++ new.amid.settled })
+  pub are_sent : AreSent tellers new.amid.settled
+  pub paused : AllPaused tellers new.amid.settled
+  pub apart : NotAmong i new.amid.settled
+  pub meets : MeetMore i met tellers (with_turn_note i due t x known new tellers)
 
 -- with each note the turn goes on, as long as no call comes behind a receive that wasn't answered,
 abbrev pub MailTurnGoesOn : Type 0
 MailTurnGoesOn =
     (begun : ℕ) (programs : List Program) (detaches : List Detach) (boxes : List (List ℕ)) (ds : List Device) (count i due : ℕ) (lines : List Line) (tellers : List Teller)
-    (w : Program) (t : Teller) (x : Note) (met : List Outcome) (old new : MailSupply)
-    → TellsOnFrom begun programs detaches boxes ds count i due lines tellers old.amid → slice_get programs i ≡ Some w → slice_get tellers i ≡ Some t → old.lines ≡ t.answers
-    → TakesMail w (call_in x.event) old met new → (call_in x.event ≡ None) ⊎ (t.receive ≡ None) → ends_turn x.event ≡ false
-    → (known : List Outcome) × IsKnown t met (having_told t (x ∷ []) known new.lines new.amid.receive)
-    × TellsOnFrom begun programs detaches boxes ds count i due (lines ++ line_at due i x.event ∷ []) (slice_set tellers i (having_told t (x ∷ []) known new.lines new.amid.receive)) new.amid
+    (sent : List Settled) (w : Program) (t : Teller) (x : Note) (met : List Outcome) (old new : MailSupply)
+    → TellsOnFrom begun programs detaches boxes ds count i due lines tellers (record old.amid { settled = sent }) → slice_get programs i ≡ Some w → slice_get tellers i ≡ Some t
+    → old.lines ≡ t.answers → old.amid.settled ≡ [] → TakesMail w (call_in x.event) old met new → (call_in x.event ≡ None) ⊎ (t.receive ≡ None) → ends_turn x.event ≡ false
+    → GoesOnBy begun programs detaches boxes ds count i due lines tellers sent t x met new
 
 -- in the midst of it the program waits nowhere,
 abbrev pub MailTurnAwake : Type 0
@@ -56,20 +78,20 @@ MailTurnAwake =
 abbrev pub mail_behind : (program : ℕ) → (parking : Option Await) → Amid → Mail
 mail_behind i parking now = record { boxes = parked_in i parking now.boxes; settled = [] }
 
--- the tellers behind a turn of this program, which was due at this tick and has told this last note, once those that were sent a value have got it
-abbrev pub tellers_behind : (program due : ℕ) → Teller → Note → Amid → List Teller → List Teller
-tellers_behind i due t x now tellers = settle_all (suc due) now.settled (slice_set tellers i (having_told t (x ∷ []) [] t.answers now.receive))
+-- the program of a turn behind its last note
+abbrev pub with_last : Teller → Note → (receive : Option Await) → Teller
+with_last t x receive = having_told t (x ∷ []) [] t.answers receive
 
--- and with its last note it is whole, with what is shown behind an end: those that were sent a value have got it, and where it pauses at a receive that
--- wasn't answered it waits there.
+-- and with its last note it is whole, with what is shown behind an end: where it pauses at a receive that wasn't answered it waits there.
 abbrev pub MailTurnEnds : Type 0
 MailTurnEnds =
     (begun : ℕ) (programs : List Program) (detaches : List Detach) (boxes : List (List ℕ)) (ds : List Device) (count i due : ℕ) (lines : List Line) (tellers : List Teller)
     (w : Program) (t : Teller) (x : Note) (now : Amid)
     → TellsOnFrom begun programs detaches boxes ds count i due lines tellers now → slice_get programs i ≡ Some w → slice_get tellers i ≡ Some t → ends_turn x.event ≡ true
     → Tells begun programs detaches boxes ds (suc count) (lines ++ line_at due i (told_pause (parks (x ∷ []) now.receive) x.event) ∷ map (line_at due i) (looks_after w.looks x x.event))
-    (tellers_behind i due t x now tellers) (common_of now.devices (mail_behind i (parks (x ∷ []) now.receive) now) due)
-    × MailStands boxes (tellers_behind i due t x now tellers) (mail_behind i (parks (x ∷ []) now.receive) now)
+      (slice_set tellers i (with_last t x now.receive)) (common_of now.devices (mail_behind i (parks (x ∷ []) now.receive) now) due)
+    × MailStands boxes (slice_set tellers i (with_last t x now.receive)) (mail_behind i (parks (x ∷ []) now.receive) now)
+    × MeetMore i [] tellers (slice_set tellers i (with_last t x now.receive))
 
 -- Where none is due, the first that waits ends there, with what is shown behind it.
 abbrev pub MailStalls : Type 0
