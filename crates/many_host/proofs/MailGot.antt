@@ -85,7 +85,7 @@ module _ (shows : List Show) (programs : List Program) (due : ℕ) where
   SentPaused tellers (s ∷ ss) = IsSent tellers s ss × SentPaused tellers ss
 
   -- another isn't changed
-  sent_on : (tellers : List Teller) (i : ℕ) (t : Teller) (ss : List Settled) → NotAmong i ss → SentPaused tellers ss → SentPaused (slice_set tellers i t) ss
+  pub sent_on : (tellers : List Teller) (i : ℕ) (t : Teller) (ss : List Settled) → NotAmong i ss → SentPaused tellers ss → SentPaused (slice_set tellers i t) ss
   sent_on tellers i t [] apart h = tt
   sent_on tellers i t (s ∷ ss) apart h =
       (

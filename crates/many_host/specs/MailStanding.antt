@@ -4,7 +4,7 @@ use Rattle.std.specs.List.{find}
 use Rattle.wa_types.specs.declared.values.Value.TheVariants as V
 use Rattle.wa_model.specs.declared.answers.Detach.{Detach}
 use Rattle.wa_model.specs.declared.events.Line.{Line as LineValue}
-use Rattle.wa_model.specs.Outside.{AnswerLine, Call, Event, Line, parked}
+use Rattle.wa_model.specs.Outside.{AnswerLine, Call, Event, Line}
 use Rattle.wa_model.specs.Plan.{Outcome}
 use Rattle.wa_model.specs.View.{line_of}
 use Rattle.wa_model.specs.Blocking.{Note}
@@ -198,15 +198,15 @@ pub record IsFirstParked (xs : List Hosted) (i : ℕ) : Type 0 where
 
 -- ---- what an event leads to
 
--- when the program of a turn is due behind this event: not while it waits
-abbrev pub due_behind : (due : ℕ) → Event → Option ℕ
-due_behind due (parked used) = None
-due_behind due e = S.due_behind due e
+-- when the program of a turn is due behind this event: not while it is parked
+abbrev pub due_behind : (is_parked : Bool) → (due : ℕ) → Event → Option ℕ
+due_behind true due e = None
+due_behind false due e = S.due_behind due e
 
 -- where the host then stands
-abbrev pub stage_behind : Turn → Event → Stage
-stage_behind turn (parked used) = Between
-stage_behind turn e = S.stage_behind turn e
+abbrev pub stage_behind : (is_parked : Bool) → Turn → Event → Stage
+stage_behind true turn e = Between
+stage_behind false turn e = S.stage_behind turn e
 
 -- The program can wait at the mailbox of this name, which is there and has no values.
 pub record CanWait (program : ℕ) (name : List ℕ) (mail : Mail) : Type 0 where

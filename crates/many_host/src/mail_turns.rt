@@ -170,11 +170,11 @@ impl<'m> Turns<Hosted<'m>> {
         ensures begun { self.new.begun ≡ self.old.begun }
     {
         let event = self.programs[turn.program].program.advance(devices, mail)?;
-        let next = settle_with_mail(turn, &event);
+        let parked_at = self.programs[turn.program].program.parked_at();
+        let next = settle_or_park(turn, &event, parked_at.is_some());
+        wait_where_parked(parked_at, turn.program as u32, mail)?;
         self.dues[turn.program] = next.due;
         self.stage = next.stage;
-        let parked_at = self.programs[turn.program].program.parked_at();
-        wait_where_parked(parked_at, turn.program as u32, mail)?;
         self.settle_sent(turn.due + 1, mail);
         Ok(Line {
             tick: turn.due,
@@ -280,18 +280,18 @@ fn wait_where_parked(
     mail.wait(place, program)
 }
 
-// What an event of a turn leads to: a program that parks isn't due until it is sent a value.
-fn settle_with_mail(turn: Turn, event: &Event) -> Settled
+// What an event of a turn leads to: a program that is parked isn't due until it is sent a value.
+fn settle_or_park(turn: Turn, event: &Event, is_parked: bool) -> Settled
     requires { turn.due + most_ticks < 2 ^ 64 }
-    ensures due { result.due ≡ due_behind turn.due (event_of event.now) }
+    ensures due { result.due ≡ due_behind is_parked turn.due (event_of event.now) }
     ensures later { (due : ℕ) → result.due ≡ Some due → due ≤ turn.due + most_ticks }
-    ensures stage { result.stage ≡ stage_behind turn (event_of event.now) }
+    ensures stage { result.stage ≡ stage_behind is_parked turn (event_of event.now) }
 {
-    match event {
-        Event::Parked { .. } => Settled {
+    if is_parked {
+        return Settled {
             due: None,
             stage: Stage::Between,
-        },
-        _ => settle(turn, event),
+        };
     }
+    settle(turn, event)
 }
