@@ -15,6 +15,7 @@ pub mod MailSettled
 pub mod MetLines
 pub mod MailGot
 pub mod MailHeld
+pub mod MailNext
 pub mod MailWaits
 pub mod Notes
 pub mod Numbers
