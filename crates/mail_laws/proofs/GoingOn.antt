@@ -712,7 +712,7 @@ told_from begun programs detaches boxes ds count lines tellers c sizes tells hol
     let h = on_and_on begun programs detaches boxes ds (sum sizes) count lines tellers c sizes (omega arith) tells holds in (
       h.more,
       h.c.devices,
-      all_told_is_world begun programs detaches boxes ds h.count (lines ++ h.more) h.tellers h.c h.tells (all_stories programs h.tellers h.c h.sizes h.holds h.over) h.over,
+      (all_told_is_world begun programs detaches boxes ds h.count (lines ++ h.more) h.tellers h.c h.tells (all_stories programs h.tellers h.c h.sizes h.holds h.over) h.over).0,
     )
 
 pub each_world_ends : EachWorldEnds

@@ -15,7 +15,7 @@ use Rattle.wa_model.specs.Plan.{Outcome}
 use Rattle.wa_model.specs.Blocking.{Note, no_store}
 use Rattle.wa_model.specs.Store.{Store}
 use Rattle.world_model.specs.World.{Device, Program, Look, turn_of, behind_turn, put_off, line_at, events_with_looks, looks_after, is_end}
-use Rattle.world_laws.proofs.Places.{item, map_at, set_here, set_there, set_same, zipped}
+use Rattle.world_laws.proofs.Places.{item, map_at, of_map, set_here, set_there, set_same, zipped}
 use Rattle.mailbox_device.specs.declared.mailbox.Settled.{Settled}
 use Rattle.mailbox_device.specs.Mail.{empty_box as no_mail}
 use Rattle.mail_laws.specs.MailWorld.{Actor, Parked, Plays, a_turn, a_stall, IsNext, IsReady, StartsHeld, HeldStory, IsOver, nobody, sharing, parked_at, parks, told_pause, store_behind, wake, woken}
@@ -24,7 +24,7 @@ use Rattle.mail_laws.specs.Mailboxes.{Receive, Mailbox, Shared, Midst, CallsMeet
 use Rattle.mail_laws.specs.Played.{Played, EndsAreTold}
 use Rattle.mail_laws.specs.Told.{Await, Common, Teller, promised, receive_of, shared_by, number_of, midst_by, pending, starting, if_going, waits_at, unless_waiting, due_of, ends_program, having_told}
 use Rattle.mail_laws.specs.Told.{having_got, no_teller, settle_all, NotAmong, AreSent, parked_in, begun_amid, TellsTurn, TellsStall, TellsEvent, tells_turn, tells_stall, Tells, IsRest, HasStory}
-use Rattle.mail_laws.specs.Told.{ToldIsWorld, AllToldIsWorld}
+use Rattle.mail_laws.specs.Told.{ToldIsWorld, AllToldIsWorld, HaveMet}
 use Rattle.mail_laws.proofs.WholeTurns.{turn_whole, behind_whole, some_note, calls_behind, parks_unless, store_last}
 use Rattle.mail_laws.proofs.Promises.{fixed, fixed_here, fixed_there, fixed_out, fixed_none, fixed_small, fixed_keeps, not_sent, still_sent, boxes_same, parked_boxes, parks_map, told_map}
 use Rattle.mail_laws.proofs.Played.{one_more, as_events}
@@ -476,8 +476,10 @@ pub none_going : (b : Bool) → if_going b nowhere ≡ nowhere
 none_going true = refl
 none_going false = refl
 
-record Reached (begun : ℕ) (programs : List Program) (detaches : List Detach) (boxes : List (List ℕ)) (ds : List Device) (count : ℕ) (lines : List Line) (actors : List Actor) (sh : Shared) : Type 0 where
+record Reached (begun : ℕ) (programs : List Program) (detaches : List Detach) (boxes : List (List ℕ)) (ds : List Device) (wholes : List Whole) (count : ℕ) (lines : List Line) (actors : List Actor)
+    (sh : Shared) : Type 0 where
   pub start : List Actor
+  pub outcomes : (i : ℕ) (h : Whole) (a : Actor) → slice_get wholes i ≡ Some h → slice_get start i ≡ Some a → a.outcomes ≡ h.outcomes
   pub starts : AllZip StartsHeld programs start
   pub played : Played programs detaches (suc begun) count start (sharing boxes ds) lines actors sh
 
@@ -499,15 +501,24 @@ module _ (begun : ℕ) (programs : List Program) (detaches : List Detach) (boxes
             story = subst (λ (ns : List Note). HeldStory w a.outcomes ns) (sym tie.notes) (subst (λ (os : List Outcome). HeldStory w os h.0.notes) (sym tie.outcomes) (stories i w h.0 ew h.1));
           }
 
+  -- nothing was met before
+  start_outcomes : (will : ℕ → ℕ) (tellers : List Teller) (actors : List Actor) → tellers ≡ map starting programs → Foretold will wholes tellers actors
+      → (i : ℕ) (h : Whole) (a : Actor) → slice_get wholes i ≡ Some h → slice_get actors i ≡ Some a → a.outcomes ≡ h.outcomes
+  start_outcomes will tellers actors is fore i h a eh ea =
+      let t = item tellers i (omega (arith, slice_get_within actors i a ea, fore.long)) in
+      let w = of_map starting programs i t.0 (ap (λ (l : List Teller). slice_get l i) (sym is) ∙ t.1) in
+      ap (λ (x : Teller). x.met ++ pending (will i) x.receive ++ a.outcomes) w.2 ∙ (fore.each i t.0 h a t.1 eh ea).outcomes
+
   opens : (will : ℕ → ℕ) (names : List (List ℕ)) → map (promised will) (map no_mail names) ≡ map empty_box names
   opens will [] = refl
   opens will (n ∷ names) = ap (λ (l : List Mailbox). empty_box n ∷ l) (opens will names)
 
   reaches : (count : ℕ) (will : ℕ → ℕ) → ((j : ℕ) → will j < 2 ^ 32) → (lines : List Line) (tellers : List Teller) (c : Common) (actors : List Actor)
-      → Tells begun programs detaches boxes ds count lines tellers c → Foretold will wholes tellers actors → Reached begun programs detaches boxes ds count lines actors (shared_by will c)
+      → Tells begun programs detaches boxes ds count lines tellers c → Foretold will wholes tellers actors → Reached begun programs detaches boxes ds wholes count lines actors (shared_by will c)
   reaches zero will small lines tellers c actors tells fore =
       record {
         start = actors;
+        outcomes = start_outcomes will tellers actors tells.1 fore;
         starts = start will tellers actors tells.1 fore;
         played = (tells.0, refl, ap (shared_by will) tells.2 ∙ (λ k. record { devices = ds; boxes = opens will boxes k; tick = 0 }));
       }
@@ -516,6 +527,7 @@ module _ (begun : ℕ) (programs : List Program) (detaches : List Detach) (boxes
       let on = reaches count b.will b.small tells.0 tells.2 tells.3 b.acts tells.4 b.fore in
       record {
         start = on.start;
+        outcomes = on.outcomes;
         starts = on.starts;
         played = subst (λ (l : List Line). Played programs detaches (suc begun) (suc count) on.start (sharing boxes ds) l actors (shared_by will c)) (sym tells.6)
             (one_more programs detaches count (suc begun) (suc (begun + count)) on.start b.acts actors (sharing boxes ds) (shared_by b.will tells.3) (shared_by will c) tells.0 tells.1 (omega arith) on.played b.plays);
@@ -750,20 +762,30 @@ told_is_world begun programs detaches boxes ds count lines tellers c tells all =
 pub all_told_is_world : AllToldIsWorld
 all_told_is_world begun programs detaches boxes ds count lines tellers c tells all done =
     let p = prepared programs tellers all in
-    let on = reaches begun programs detaches boxes ds p.wholes p.stories count p.will p.small lines tellers c p.actors tells p.fore in
-    record {
-      actors = on.start;
-      starts = on.starts;
-      runs = record {
-        last = p.actors;
-        shared = shared_by p.will c;
-        events = as_events programs detaches count (suc begun) on.start p.actors (sharing boxes ds) (shared_by p.will c) lines on.played;
-        over = over p;
-        devices = refl;
-      };
-      ends = each;
-    }
+    let on = reaches begun programs detaches boxes ds p.wholes p.stories count p.will p.small lines tellers c p.actors tells p.fore in (
+      record {
+        actors = on.start;
+        starts = on.starts;
+        runs = record {
+          last = p.actors;
+          shared = shared_by p.will c;
+          events = as_events programs detaches count (suc begun) on.start p.actors (sharing boxes ds) (shared_by p.will c) lines on.played;
+          over = over p;
+          devices = refl;
+        };
+        ends = each;
+      },
+      met_first p on.start on.outcomes,
+    )
   where
+    -- what was met begins what an actor's calls meet
+    met_first : (p : Prepared programs tellers) (start : List Actor) → ((i : ℕ) (h : Whole) (a : Actor) → slice_get p.wholes i ≡ Some h → slice_get start i ≡ Some a → a.outcomes ≡ h.outcomes)
+        → HaveMet tellers start
+    met_first p start same i t a et ea =
+        let b = item p.actors i (omega (arith, slice_get_within tellers i t et, p.fore.long)) in
+        let h = item p.wholes i (omega (arith, slice_get_within tellers i t et, p.fore.wide)) in
+        (p.will i, p.small i, (b.0.outcomes, same i h.0 a h.1 ea ∙ sym (p.fore.each i t h.0 b.0 et h.1 b.1).outcomes))
+
     over : (p : Prepared programs tellers) → IsOver p.actors
     over p k d within =
         let a = get_or p.actors k d in

@@ -8,11 +8,12 @@ use Rattle.wa_model.specs.declared.events.End.TheVariants.{Stalled}
 use Rattle.wa_model.specs.Outside.{AnswerLine, Event, Line, ended}
 use Rattle.wa_model.specs.Plan.{Outcome}
 use Rattle.wa_model.specs.Blocking.{Note}
+use Rattle.wa_model.specs.Behaves.{IsPrefix}
 use Rattle.world_model.specs.World.{Device, Program, answers_from, detached, due_from, ends_turn, events_with_looks, is_end, line_at, look_events, put_off}
 use Rattle.mailbox_device.specs.declared.mailbox.Settled.{Settled}
 use Rattle.mailbox_device.specs.Mail.{Box, at_box, awaited, empty_box}
 use Rattle.mail_laws.specs.Mailboxes.{CallsMeet, Mailbox, Midst, Receive, Shared, Waiting, mailed}
-use Rattle.mail_laws.specs.MailWorld.{HeldStory, ProtocolWorldFrom, begins_over, parks, store_behind, told_pause}
+use Rattle.mail_laws.specs.MailWorld.{Actor, HeldStory, ProtocolWorldFrom, begins_over, parks, store_behind, told_pause}
 use Rattle.mail_laws.specs.Played.{ProtocolWorldUpToFrom}
 
 -- ---- what is known of mailboxes, whose programs that wait are numbers alone
@@ -267,6 +268,12 @@ pub record HasStory (w : Program) (t : Teller) : Type 0 where
 abbrev pub HaveEnded : List Teller → Type 0
 HaveEnded tellers = (i : ℕ) (t : Teller) → slice_get tellers i ≡ Some t → t.has_ended ≡ true
 
+-- What each program's calls have met, with some answer to its receive that wasn't answered, are the first outcomes of its actor.
+abbrev pub HaveMet : List Teller → List Actor → Type 0
+HaveMet tellers actors =
+    (i : ℕ) (t : Teller) (a : Actor) → slice_get tellers i ≡ Some t → slice_get actors i ≡ Some a
+    → (value : ℕ) × (value < 2 ^ 32) × IsPrefix (t.met ++ pending value t.receive) a.outcomes
+
 -- ---- laws
 
 -- Turns that were told one after another are a world played up to that event, where what each program has told begins its story;
@@ -276,12 +283,12 @@ ToldIsWorld =
     → Tells begun programs detaches boxes ds count lines tellers c → AllZip HasStory programs tellers
     → ProtocolWorldUpToFrom begun programs detaches boxes ds (begun + count) lines c.devices
 
--- once all programs have ended, they are a whole run of the world;
+-- once all programs have ended, they are a whole run of the world, whose calls meet what the programs' calls have met;
 abbrev pub AllToldIsWorld : Type 0
 AllToldIsWorld =
     (begun : ℕ) (programs : List Program) (detaches : List Detach) (boxes : List (List ℕ)) (ds : List Device) (count : ℕ) (lines : List Line) (tellers : List Teller) (c : Common)
     → Tells begun programs detaches boxes ds count lines tellers c → AllZip HasStory programs tellers → HaveEnded tellers
-    → ProtocolWorldFrom begun programs detaches boxes ds lines c.devices
+    → (world : ProtocolWorldFrom begun programs detaches boxes ds lines c.devices) × HaveMet tellers world.actors
 
 -- and up to whatever event they were told, the world goes on to an end.
 abbrev pub ToldGoesOn : Type 0

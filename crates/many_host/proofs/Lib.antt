@@ -12,6 +12,7 @@ pub mod MailBoxes
 pub mod MailKept
 pub mod MailNotes
 pub mod MailSettled
+pub mod MailStories
 pub mod MetLines
 pub mod MailGot
 pub mod MailHeld

@@ -1,6 +1,6 @@
 //! Laws of notes that are told one after another where there are mailboxes. Each is the contract of a function that does nothing.
 
-ghost use Rattle.many_host.specs.ToldMail.{MailStalls, MailTurnAwake, MailTurnBegins, MailTurnEnds, MailTurnGoesOn, NothingMailTold};
+ghost use Rattle.many_host.specs.ToldMail.{HeldHasStory, MailStalls, MailTurnAwake, MailTurnBegins, MailTurnEnds, MailTurnGoesOn, NothingMailTold};
 
 /// Nothing is told at first; a turn begins, goes on with each note, and ends; and where none is due the first that waits stalls.
 pub fn notes_with_mail_are_told()
@@ -10,4 +10,9 @@ pub fn notes_with_mail_are_told()
     ensures awake { MailTurnAwake }
     ensures ends { MailTurnEnds }
     ensures stalls { MailStalls }
+{}
+
+/// What a program that is held has told begins its story.
+pub fn held_programs_have_stories()
+    ensures { HeldHasStory }
 {}
