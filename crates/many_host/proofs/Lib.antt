@@ -17,6 +17,7 @@ pub mod MetLines
 pub mod MailGot
 pub mod MailHeld
 pub mod MailNext
+pub mod MailTells
 pub mod MailWaits
 pub mod Notes
 pub mod Numbers

@@ -95,7 +95,7 @@ abbrev pub dues_at : List Teller → Stage → List (Option ℕ)
 dues_at tellers (Telling turn) = slice_set (map due_of tellers) turn.program (Some turn.due)
 dues_at tellers _ = map due_of tellers
 
--- Behind so many events whole ones are told; or a turn has begun; or whole ones but for what is still to be shown of a program's memory. The last
+-- Behind so many events whole ones are told; or a turn has begun, whose program isn't parked; or whole ones but for what is still to be shown of a program's memory. The last
 -- event had this tick.
 abbrev pub StandsAtFrom : (begun : ℕ) → List Program → List Detach → (boxes : List (List ℕ)) → List Device → (count : ℕ) → List Line → List Teller → Held Hosted → (last : ℕ)
     → List Device → Mail → Stage → Type 0
@@ -105,6 +105,7 @@ StandsAtFrom begun programs detaches boxes ds count lines tellers h last ds' mai
     (number : ℕ) × (count ≡ suc number) × (t : Teller) × (slice_get tellers turn.program ≡ Some t)
     × (sent : List Settled) × (mail.settled ≡ [])
     × TellsOnFrom begun programs detaches boxes ds number turn.program turn.due lines tellers (amid_of ds' (record mail { settled = sent }) t.receive) × (last ≡ turn.due)
+    × ((x : Hosted) → slice_get h.programs turn.program ≡ Some x → parked_in x.program ≡ None)
 StandsAtFrom begun programs detaches boxes ds count lines tellers h last ds' mail (Showing turn from) =
     (x : Hosted) × (slice_get h.programs turn.program ≡ Some x)
     × Tells begun programs detaches boxes ds count (lines ++ map (line_at turn.due turn.program) (looks_at (memory_of x) (looks_of turn.program (drop from h.shows)))) tellers (common_of ds' mail last)
