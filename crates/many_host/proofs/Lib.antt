@@ -16,6 +16,7 @@ pub mod MailStories
 pub mod MetLines
 pub mod MailGot
 pub mod MailHeld
+pub mod MailLines
 pub mod MailNext
 pub mod MailTells
 pub mod MailWaits

@@ -1,0 +1,183 @@
+-- Where a host with mailboxes stands behind a note of a turn.
+use Rattle.std.proofs.Common.{arith, ◌≡◌, ◌⊎◌, inl, inr, ◌<◌, ◌+◌, ◌++◌, ◌||◌, ℕ, suc, List, [], ◌∷◌, length, map, Option, Some, None, Bool, true, false, if◌then◌else◌, refl, sym, ap, ◌∙◌, subst, length-set, append-nil, append_assoc}
+use Rattle.std.specs.Prelude.{is_some, slice_get, slice_set}
+use Rattle.std.specs.Option.{option_map}
+use Rattle.std.proofs.lemmas.List.{map-set, set-set, set_comm}
+use Rattle.std.proofs.lemmas.Option.{same_Some}
+use Rattle.wa_model.specs.declared.answers.Detach.{Detach}
+use Rattle.wa_model.specs.Outside.{AnswerLine, Call, Event, Line, called, answered, paused, parked, returned, ended, shown}
+use Rattle.wa_model.specs.Plan.{Outcome}
+use Rattle.wa_model.specs.Blocking.{Note}
+use Rattle.wa_model.specs.View.{event_of}
+use Rattle.world_model.specs.World.{Device, Look, Program, call_in, ends_turn, is_end, line_at, looks_after, ticks_in}
+use Rattle.world_laws.proofs.Places.{set_here, set_there}
+use Rattle.event_order.specs.declared.shows.Show.{Show}
+use Rattle.event_order.specs.declared.turns.Turn.{Turn}
+use Rattle.event_order.specs.Left.{Counted}
+use Rattle.event_order.specs.Looks.{looks_of}
+use Rattle.mailbox_device.specs.declared.mailbox.Settled.{Settled}
+use Rattle.mailbox_device.specs.Mail.{Box, Mail, at_box, awaited}
+use Rattle.mail_laws.specs.MailWorld.{parks, told_pause}
+use Rattle.mail_laws.specs.Told.{Amid, Await, Common, NotAmong, Teller, Tells, due_of, having_told, if_going, parked_in as parked_boxes, settle_all, unless_waiting}
+use Rattle.pause_host.specs.Mailing.{MailAnswers, MailSupply, TakesMail, amid_of}
+use Rattle.pause_host.specs.Programs.{StopsBehindReceive, TellsNext, begins_paused, ends_in_pause, is_at_pause, lines_left, parked_in, receive_in}
+use Rattle.pause_host.specs.Views.{is_pause}
+use Rattle.pause_host.proofs.Stopping.{no_call_parked}
+use Rattle.many_host.specs.Calls.{devices_of, faults_of}
+use Rattle.many_host.specs.Hosts.{memory_of}
+use Rattle.many_host.specs.MailStanding.{CallTakes, HaveGot, IsHeld, MailStands, MeetMore, StandingFrom, StandsAtFrom, TakesCall, TellsLineFrom, common_of, due_behind, dues_at, dues_settled, met_so_far, on_its_way, stage_behind, with_waiting}
+use Rattle.many_host.specs.MailTurns.{TellsOnFrom}
+use Rattle.many_host.specs.ToldMail.{GoesOnBy, mail_behind, with_last}
+use Rattle.many_host.specs.Standing as S
+use Rattle.many_host.specs.Standing.{Held, looks_at}
+use Rattle.many_host.specs.declared.hosted.Hosted.{Hosted}
+use Rattle.many_host.specs.declared.turn_taking.Stage.{Stage}
+use Rattle.many_host.specs.declared.turn_taking.Stage.TheVariants.{Between, Telling, Showing}
+use Rattle.many_host.proofs.MailGot.{EachHeld, all_got, dues_got, many_got, many_held}
+use Rattle.many_host.proofs.MailNext.{next_held}
+use Rattle.many_host.proofs.MailNotes.{mail_turn_ends}
+use Rattle.many_host.proofs.MailSettled.{settle_out}
+use Rattle.many_host.proofs.MailTells as T
+use Rattle.many_host.proofs.MailTells.{set_held}
+
+-- ---- those that were sent a value, and another
+
+-- another is due as it was
+pub due_past : (due : ℕ) (ss : List Settled) (dues : List (Option ℕ)) (i : ℕ) (d : Option ℕ) → NotAmong i ss → slice_set (dues_settled due ss dues) i d ≡ dues_settled due ss (slice_set dues i d)
+due_past due [] dues i d out = refl
+due_past due (s ∷ ss) dues i d out =
+    due_past due ss (slice_set dues s.program (Some due)) i d out.1 ∙ ap (dues_settled due ss) (set_comm dues s.program i (Some due) d (λ e. out.0 (sym e)))
+
+-- and stands as it was
+pub got_past : (ss : List Settled) (xs xs' : List Hosted) (i : ℕ) → NotAmong i ss → HaveGot ss xs xs' → slice_get xs' i ≡ slice_get xs i
+got_past [] xs xs' i out h = ap (λ (l : List Hosted). slice_get l i) h
+got_past (s ∷ ss) xs xs' i out h = got_past ss (slice_set xs s.program h.1) xs' i out.1 h.4 ∙ set_there xs s.program i h.1 out.0
+
+-- ---- devices with their counts
+
+pub counted_same : (old new : List Counted) → devices_of new ≡ devices_of old → faults_of new ≡ faults_of old → new ≡ old
+counted_same [] [] d f = refl
+counted_same [] (n ∷ ns) d f = cc
+counted_same (o ∷ os) [] d f = cc
+counted_same (o ∷ os) (n ∷ ns) d f =
+    let first_d : n.device ≡ o.device = cc in
+    let first_f : n.faults ≡ o.faults = cc in
+    let rest_d : devices_of ns ≡ devices_of os = cc in
+    let rest_f : faults_of ns ≡ faults_of os = cc in
+    λ j. record { device = first_d j; faults = first_f j } ∷ counted_same os ns rest_d rest_f j
+
+-- what doesn't end a turn is told as it is
+pub told_plain : {X : Type 0} (r : Option X) (e : Event) → ends_turn e ≡ false → told_pause r e ≡ e
+told_plain None e q = refl
+told_plain (Some r) (called c) q = refl
+told_plain (Some r) (answered v) q = refl
+told_plain (Some r) (paused ticks used) q = cc
+told_plain (Some r) (returned entry v) q = refl
+told_plain (Some r) (ended how) q = cc
+told_plain (Some r) (parked used) q = refl
+told_plain (Some r) (shown at bytes) q = refl
+
+last_pause : (b : Bool) (notes : List Note) (x : Note) → ends_in_pause b (notes ++ x ∷ []) ≡ is_pause x.event
+last_pause b [] x = refl
+last_pause b (y ∷ ys) x = last_pause (is_pause y.event) ys x
+
+module _ (begun : ℕ) (programs : List Program) (detaches : List Detach) (boxes : List (List ℕ)) (ds : List Device) (lines : List Line) (h : Held Hosted) (last : ℕ) (ds' : List Device) (mail : Mail)
+    (turn : Turn) (s : StandingFrom begun programs detaches boxes ds lines h last ds' mail (Telling turn)) (x : Hosted) (there : slice_get h.programs turn.program ≡ Some x)
+    (x' : Hosted) (e : Event) (faults faults' : List ℕ) (ds'' : List Device) (mail' : Mail) where
+  abbrev i : ℕ
+  i = turn.program
+
+  abbrev t : Teller
+  t = s.at.2
+
+  abbrev w : Program
+  w = s.at.6.w
+
+  abbrev old : MailSupply
+  old = T.old begun programs detaches boxes ds lines h last ds' mail turn s x there x' e faults faults' ds'' mail'
+
+  abbrev new : MailSupply
+  new = T.new begun programs detaches boxes ds lines h last ds' mail turn s x there x' e faults faults' ds'' mail'
+
+  module _ (n : TellsNext w t.told (met_so_far t) e old new x'.program)
+      (stops : StopsBehindReceive x'.program × ((r : Await) → receive_in x.program ≡ Some r → call_in e ≡ None)) where
+    abbrev x_note : Note
+    x_note = n.advances.note
+
+    -- the held programs behind it
+    abbrev held_now : List Hosted → List (Option ℕ) → Held Hosted
+    held_now xs dues = record { programs = xs; dues = dues; detaches = h.detaches; shows = h.shows; begun = h.begun; earlier = h.earlier }
+
+    paused_is : is_at_pause x'.program.state ≡ is_pause x_note.event
+    paused_is = n.advances.follows.paused ∙ last_pause (begins_paused w.origin) t.told x_note
+
+    said : e ≡ told_pause (receive_in x'.program) x_note.event
+    said = n.event_is ∙ ap (told_pause (receive_in x'.program)) (sym n.advances.event_is)
+
+    -- what is told behind
+    abbrev line : Line
+    line = line_at turn.due i e
+
+    -- ---- it goes on
+
+    module _ (quiet : ends_turn x_note.event ≡ false) (xs : List Hosted) (due : ℕ) (due_is : due ≡ suc turn.due) where
+      abbrev ss : List Settled
+      ss = mail'.settled
+
+      abbrev goes : GoesOnBy begun programs detaches boxes ds s.at.0 i turn.due lines s.tellers s.at.4 t x_note n.advances.met new
+      goes = T.goes begun programs detaches boxes ds lines h last ds' mail turn s x there x' e faults faults' ds'' mail' n stops quiet
+
+      abbrev told : List Teller
+      told = T.told begun programs detaches boxes ds lines h last ds' mail turn s x there x' e faults faults' ds'' mail' n stops quiet
+
+      abbrev advanced : List Hosted
+      advanced = slice_set h.programs i x'
+
+      abbrev next : Teller
+      next = T.next begun programs detaches boxes ds lines h last ds' mail turn s x there x' e faults faults' ds'' mail' n stops quiet
+
+      abbrev behind : List Teller
+      behind = settle_all (suc turn.due) ss told
+
+      goes_dues : dues_settled due ss (slice_set h.dues i (Some turn.due)) ≡ dues_at behind (Telling turn)
+      goes_dues =
+          ap (λ d. dues_settled d ss (slice_set h.dues i (Some turn.due))) due_is
+          ∙ ap (λ (l : List (Option ℕ)). dues_settled (suc turn.due) ss (slice_set l i (Some turn.due))) s.dues
+          ∙ ap (dues_settled (suc turn.due) ss) (set-set (map due_of s.tellers) i (Some turn.due) (Some turn.due) ∙ sym (set-set (map due_of s.tellers) i (due_of next) (Some turn.due)))
+          ∙ sym (due_past (suc turn.due) ss (slice_set (map due_of s.tellers) i (due_of next)) i (Some turn.due) goes.apart)
+          ∙ ap (λ (l : List (Option ℕ)). slice_set l i (Some turn.due))
+          (ap (dues_settled (suc turn.due) ss) (sym (map-set due_of s.tellers i next))
+          ∙ dues_got h.shows programs (suc turn.due) ss told (T.sent_now begun programs detaches boxes ds lines h last ds' mail turn s x there x' e faults faults' ds'' mail' n stops quiet))
+
+      e_is : x_note.event ≡ e
+      e_is = sym (said ∙ told_plain (receive_in x'.program) x_note.event quiet)
+
+      pub goes_stands : HaveGot ss advanced xs → parked_in x'.program ≡ None
+          → StandingFrom begun programs detaches boxes ds (lines ++ line ∷ []) (held_now xs (dues_settled due ss (slice_set h.dues i (Some turn.due)))) last ds'' (record mail' { settled = [] }) (Telling turn)
+      goes_stands got idle =
+          record {
+            tellers = behind;
+            wide = many_got h.shows programs (suc turn.due) ss told ∙ length-set s.tellers i next ∙ s.wide;
+            as_many = many_held h.shows programs (suc turn.due) ss advanced xs got ∙ length-set h.programs i x' ∙ s.as_many;
+            each = all_got h.shows programs (suc turn.due) ss told advanced xs
+                (T.each_held begun programs detaches boxes ds lines h last ds' mail turn s x there x' e faults faults' ds'' mail' n stops quiet)
+                (T.sent_now begun programs detaches boxes ds lines h last ds' mail turn s x there x' e faults faults' ds'' mail' n stops quiet) got;
+            dues = goes_dues;
+            detaches_are = s.detaches_are;
+            earlier_is = s.earlier_is;
+            count = s.count;
+            begun_is = s.begun_is;
+            at = (
+              s.at.0,
+              s.at.1,
+              next,
+              settle_out (suc turn.due) ss told i goes.apart ∙ set_here s.tellers i next t s.at.3,
+              s.at.4 ++ ss,
+              refl,
+              subst (λ (v : Event). TellsOnFrom begun programs detaches boxes ds s.at.0 i turn.due (lines ++ line_at turn.due i v ∷ []) behind
+              (amid_of ds'' (record mail' { settled = s.at.4 ++ ss }) (receive_in x'.program))) e_is goes.on,
+              s.at.7,
+              λ y at. let same : x' ≡ y = same_Some x' y (sym (got_past ss advanced xs i goes.apart got ∙ set_here h.programs i x' x there) ∙ at) in
+              ap (λ (z : Hosted). parked_in z.program) (sym same) ∙ idle,
+            );
+          }
