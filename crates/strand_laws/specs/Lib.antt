@@ -4,6 +4,8 @@ pub mod OneStrand
 pub mod StrandOriginals
 pub mod StrandWorld
 pub mod Strands
+pub mod StrandsMet
+pub mod ToldStrands
 pub mod Weaving
 pub mod WorldExample
 pub mod Woven
