@@ -18,7 +18,7 @@ use Rattle.event_order.specs.Looks.{looks_of}
 use Rattle.mailbox_device.specs.declared.mailbox.Settled.{Settled}
 use Rattle.mailbox_device.specs.Mail.{Box, Mail, at_box, awaited}
 use Rattle.mail_laws.specs.MailWorld.{parks, told_pause}
-use Rattle.mail_laws.specs.Told.{Amid, Await, Common, NotAmong, Teller, Tells, due_of, having_told, if_going, parked_in as parked_boxes, settle_all, unless_waiting}
+use Rattle.mail_laws.specs.Told.{Amid, Await, Common, NotAmong, Teller, Tells, due_of, having_told, if_going, pending, parked_in as parked_boxes, settle_all, unless_waiting}
 use Rattle.pause_host.specs.Mailing.{MailAnswers, MailSupply, TakesMail, amid_of}
 use Rattle.pause_host.specs.Programs.{StopsBehindReceive, TellsNext, begins_paused, ends_in_pause, is_at_pause, lines_left, parked_in, receive_in}
 use Rattle.pause_host.specs.Views.{is_pause}
@@ -181,3 +181,97 @@ module _ (begun : ℕ) (programs : List Program) (detaches : List Detach) (boxes
               ap (λ (z : Hosted). parked_in z.program) (sym same) ∙ idle,
             );
           }
+
+    -- ---- it ends the turn
+
+    module _ (ends : ends_turn x_note.event ≡ true) where
+      no_call : call_in x_note.event ≡ None
+      no_call = by x_note.event ends
+        where
+          by : (v : Event) → ends_turn v ≡ true → call_in v ≡ None
+          by (called c) q = cc
+          by (answered v) q = refl
+          by (paused ticks used) q = refl
+          by (returned entry v) q = refl
+          by (ended how) q = refl
+          by (parked used) q = refl
+          by (shown at bytes) q = refl
+
+      takes_none : TakesMail w None old n.advances.met new
+      takes_none = subst (λ (c : Option Call). TakesMail w c old n.advances.met new) no_call n.advances.takes
+
+      ds_is : ds'' ≡ ds'
+      ds_is = ap (λ (z : MailSupply). z.amid.devices) takes_none.1
+
+      boxes_is : mail'.boxes ≡ mail.boxes
+      boxes_is = ap (λ (z : MailSupply). z.amid.boxes) takes_none.1
+
+      settled_is : mail'.settled ≡ []
+      settled_is = ap (λ (z : MailSupply). z.amid.settled) takes_none.1 ∙ s.at.5
+
+      receive_is : receive_in x'.program ≡ t.receive
+      receive_is = ap (λ (z : MailSupply). z.amid.receive) takes_none.1 ∙ (T.held begun programs detaches boxes ds lines h last ds' mail turn s x there).follow.2
+
+      lines_is : lines_left x'.program ≡ t.answers
+      lines_is = ap (λ (z : MailSupply). z.lines) takes_none.1 ∙ (T.held begun programs detaches boxes ds lines h last ds' mail turn s x there).follow.1
+
+      abbrev end : Teller
+      end = with_last t x_note t.receive
+
+      end_known : met_so_far t ++ n.advances.met ≡ met_so_far end
+      end_known = ap (λ os. met_so_far t ++ os) takes_none.0 ∙ append-nil (met_so_far t) ∙ ap (λ os. os ++ pending 0 t.receive) (sym (append-nil t.met))
+
+      end_holds : IsHeld h.shows i w end x'
+      end_holds =
+          next_held h.shows i w t x x' e old new (T.held begun programs detaches boxes ds lines h last ds' mail turn s x there)
+          (T.unfinished begun programs detaches boxes ds lines h last ds' mail turn s x there) n stops.0 [] t.answers t.receive lines_is receive_is end_known
+
+      abbrev ended_tellers : List Teller
+      ended_tellers = slice_set s.tellers i end
+
+      abbrev parking : Option Await
+      parking = parks (x_note ∷ []) t.receive
+
+      law : Tells begun programs detaches boxes ds (suc s.at.0)
+          (lines ++ line_at turn.due i (told_pause parking x_note.event) ∷ map (line_at turn.due i) (looks_after w.looks x_note x_note.event)) ended_tellers
+          (common_of ds' (mail_behind i parking (amid_of ds' (record mail { settled = s.at.4 }) t.receive)) turn.due)
+          × MailStands boxes ended_tellers (mail_behind i parking (amid_of ds' (record mail { settled = s.at.4 }) t.receive)) × MeetMore i [] s.tellers ended_tellers
+      law =
+          mail_turn_ends begun programs detaches boxes ds s.at.0 i turn.due lines s.tellers w t x_note (amid_of ds' (record mail { settled = s.at.4 }) t.receive) s.at.6 s.at.6.program s.at.3 ends
+
+      -- what is settled behind is nothing
+      advanced_is : (xs : List Hosted) → HaveGot mail'.settled (slice_set h.programs i x') xs → xs ≡ slice_set h.programs i x'
+      advanced_is xs got = subst (λ (ss : List Settled). HaveGot ss (slice_set h.programs i x') xs) settled_is got
+
+      end_dues : (due : ℕ) (d : Option ℕ) → d ≡ due_of end → dues_settled due mail'.settled (slice_set h.dues i d) ≡ map due_of ended_tellers
+      end_dues due d is =
+          ap (λ (ss : List Settled). dues_settled due ss (slice_set h.dues i d)) settled_is
+          ∙ ap (λ (l : List (Option ℕ)). slice_set l i d) s.dues ∙ set-set (map due_of s.tellers) i (Some turn.due) d
+          ∙ ap (slice_set (map due_of s.tellers) i) is ∙ sym (map-set due_of s.tellers i end)
+
+      -- where it then stands
+      module _ (xs : List Hosted) (got : HaveGot mail'.settled (slice_set h.programs i x') xs) (due : ℕ) (d : Option ℕ) (d_is : d ≡ due_of end) where
+        abbrev now : Held Hosted
+        now = held_now xs (dues_settled due mail'.settled (slice_set h.dues i d))
+
+        end_each : EachHeld h.shows programs due ended_tellers xs
+        end_each =
+            subst (EachHeld h.shows programs due ended_tellers) (sym (advanced_is xs got))
+            (set_held h.shows programs due s.tellers h.programs i w t end x x' s.each s.at.6.program s.at.3 there (on_its_way end_holds))
+
+        pub ends_stands : (mail'' : Mail) (stage : Stage) → dues_at ended_tellers stage ≡ map due_of ended_tellers
+            → StandsAtFrom begun programs detaches boxes ds s.count (lines ++ line ∷ []) ended_tellers now last ds'' mail'' stage
+            → StandingFrom begun programs detaches boxes ds (lines ++ line ∷ []) now last ds'' mail'' stage
+        ends_stands mail'' stage plain at =
+            record {
+              tellers = ended_tellers;
+              wide = length-set s.tellers i end ∙ s.wide;
+              as_many = ap length (advanced_is xs got) ∙ length-set h.programs i x' ∙ s.as_many;
+              each = end_each;
+              dues = end_dues due d d_is ∙ sym plain;
+              detaches_are = s.detaches_are;
+              earlier_is = s.earlier_is;
+              count = s.count;
+              begun_is = s.begun_is;
+              at = at;
+            }
