@@ -5,6 +5,7 @@ use Rattle.std.specs.Option.{option_map}
 use Rattle.std.proofs.lemmas.List.{map-set, set-set, set_comm}
 use Rattle.std.proofs.lemmas.Option.{same_Some}
 use Rattle.wa_model.specs.declared.answers.Detach.{Detach}
+use Rattle.wa_model.specs.declared.events.End.{End}
 use Rattle.wa_model.specs.Outside.{AnswerLine, Call, Event, Line, called, answered, paused, parked, returned, ended, shown}
 use Rattle.wa_model.specs.Plan.{Outcome}
 use Rattle.wa_model.specs.Blocking.{Note}
@@ -17,11 +18,12 @@ use Rattle.event_order.specs.Left.{Counted}
 use Rattle.event_order.specs.Looks.{looks_of}
 use Rattle.mailbox_device.specs.declared.mailbox.Settled.{Settled}
 use Rattle.mailbox_device.specs.Mail.{Box, Mail, at_box, awaited}
-use Rattle.mail_laws.specs.MailWorld.{parks, told_pause}
+use Rattle.mail_laws.specs.MailWorld.{is_pause as is_pause_told, parks, told_pause}
 use Rattle.mail_laws.specs.Told.{Amid, Await, Common, NotAmong, Teller, Tells, due_of, having_told, if_going, pending, parked_in as parked_boxes, settle_all, unless_waiting}
 use Rattle.pause_host.specs.Mailing.{MailAnswers, MailSupply, TakesMail, amid_of}
 use Rattle.pause_host.specs.Programs.{StopsBehindReceive, TellsNext, begins_paused, ends_in_pause, is_at_pause, lines_left, parked_in, receive_in}
 use Rattle.pause_host.specs.Views.{is_pause}
+use Rattle.pause_host.proofs.Advancing.{told_end}
 use Rattle.pause_host.proofs.Stopping.{no_call_parked}
 use Rattle.many_host.specs.Calls.{devices_of, faults_of}
 use Rattle.many_host.specs.Hosts.{memory_of}
@@ -275,3 +277,54 @@ module _ (begun : ℕ) (programs : List Program) (detaches : List Detach) (boxes
               begun_is = s.begun_is;
               at = at;
             }
+
+        -- behind the event, by the receive at which it parks
+        ended_at : (v : Event) → x_note.event ≡ v → (o : Option Await) → parking ≡ o → (m : Mail) → m ≡ record { boxes = parked_boxes i o mail.boxes; settled = [] }
+            → Tells begun programs detaches boxes ds s.count (lines ++ line_at turn.due i (told_pause o v) ∷ map (line_at turn.due i) (looks_after w.looks x_note v)) ended_tellers (common_of ds'' m last)
+            × MailStands boxes ended_tellers m
+        ended_at v is o p m m_is =
+            let whole : mail_behind i parking (amid_of ds' (record mail { settled = s.at.4 }) t.receive) ≡ m = (λ j. record { boxes = parked_boxes i (p j) mail.boxes; settled = [] }) ∙ sym m_is in
+            let common : common_of ds' (mail_behind i parking (amid_of ds' (record mail { settled = s.at.4 }) t.receive)) turn.due ≡ common_of ds'' m last =
+            λ j. common_of (sym ds_is j) (whole j) (sym s.at.7 j) in
+            (
+              subst (λ (c : Common). Tells begun programs detaches boxes ds s.count
+              (lines ++ line_at turn.due i (told_pause o v) ∷ map (line_at turn.due i) (looks_after w.looks x_note v)) ended_tellers c) common
+                  (subst (λ (k : ℕ). Tells begun programs detaches boxes ds k
+                  (lines ++ line_at turn.due i (told_pause o v) ∷ map (line_at turn.due i) (looks_after w.looks x_note v)) ended_tellers
+                  (common_of ds' (mail_behind i parking (amid_of ds' (record mail { settled = s.at.4 }) t.receive)) turn.due)) (sym s.at.1)
+                  (subst (λ (ls : List Line). Tells begun programs detaches boxes ds (suc s.at.0) ls ended_tellers
+                  (common_of ds' (mail_behind i parking (amid_of ds' (record mail { settled = s.at.4 }) t.receive)) turn.due))
+                  (λ j. lines ++ line_at turn.due i (told_pause (p j) (is j)) ∷ map (line_at turn.due i) (looks_after w.looks x_note (is j))) law.0)),
+              subst (MailStands boxes ended_tellers) whole law.1,
+            )
+
+        -- a pause
+        pub at_pause : (ticks used : ℕ) → x_note.event ≡ paused ticks used → (o : Option Await) → t.receive ≡ o → (m : Mail) → m ≡ record { boxes = parked_boxes i o mail.boxes; settled = [] }
+            → StandsAtFrom begun programs detaches boxes ds s.count (lines ++ line ∷ []) ended_tellers now last ds'' m Between
+        at_pause ticks used is o r m m_is =
+            let parks_is : parking ≡ o = ap (λ (v : Event). if is_pause_told v then t.receive else None) is ∙ r in
+            let e_is : told_pause o (paused ticks used) ≡ e = (λ j. told_pause (sym (receive_is ∙ r) j) (sym is j)) ∙ sym said in
+            let at = ended_at (paused ticks used) is o parks_is m m_is in
+            (
+              subst (λ (v : Event). Tells begun programs detaches boxes ds s.count (lines ++ line_at turn.due i v ∷ []) ended_tellers (common_of ds'' m last)) e_is at.0,
+              at.1,
+            )
+
+        -- an end
+        pub at_end : (how : End) → x_note.event ≡ ended how → (m : Mail) → m ≡ record { boxes = mail.boxes; settled = [] }
+            → StandsAtFrom begun programs detaches boxes ds s.count (lines ++ line ∷ []) ended_tellers now last ds'' m (Showing turn 0)
+        at_end how is m m_is =
+            let parks_is : parking ≡ None = ap (λ (v : Event). if is_pause_told v then t.receive else None) is in
+            let e_is : ended how ≡ e = sym (said ∙ ap (told_pause (receive_in x'.program)) is ∙ told_end (receive_in x'.program) how) in
+            let at = ended_at (ended how) is None parks_is m m_is in
+            let looks : w.looks ≡ looks_of i h.shows = end_holds.looks in
+            let lines_are : lines ++ line_at turn.due i (ended how) ∷ map (line_at turn.due i) (looks_after w.looks x_note (ended how))
+            ≡ (lines ++ line ∷ []) ++ map (line_at turn.due i) (looks_at (memory_of x') (looks_of i h.shows)) =
+            (λ j. lines ++ line_at turn.due i (e_is j) ∷ map (line_at turn.due i) (looks_at (sym n.advances.memory_is j) (looks j)))
+            ∙ sym (append_assoc lines (line ∷ []) (map (line_at turn.due i) (looks_at (memory_of x') (looks_of i h.shows)))) in
+            (
+              x',
+              ap (λ (l : List Hosted). slice_get l i) (advanced_is xs got) ∙ set_here h.programs i x' x there,
+              subst (λ (ls : List Line). Tells begun programs detaches boxes ds s.count ls ended_tellers (common_of ds'' m last)) lines_are at.0,
+              at.1,
+            )
