@@ -1,6 +1,6 @@
 -- Where a host with mailboxes stands behind a note of a turn.
 use Rattle.std.proofs.Common.{arith, ◌≡◌, ◌⊎◌, inl, inr, ◌<◌, ◌+◌, ◌++◌, ◌||◌, ℕ, suc, List, [], ◌∷◌, length, map, Option, Some, None, Bool, true, false, if◌then◌else◌, refl, sym, ap, ◌∙◌, subst, length-set, append-nil, append_assoc}
-use Rattle.std.specs.Prelude.{is_some, slice_get, slice_set}
+use Rattle.std.specs.Prelude.{MatchOption, is_some, slice_get, slice_set}
 use Rattle.std.specs.Option.{option_map}
 use Rattle.std.proofs.lemmas.List.{map-set, set-set, set_comm}
 use Rattle.std.proofs.lemmas.Option.{same_Some}
@@ -154,7 +154,7 @@ module _ (begun : ℕ) (programs : List Program) (detaches : List Detach) (boxes
       e_is : x_note.event ≡ e
       e_is = sym (said ∙ told_plain (receive_in x'.program) x_note.event quiet)
 
-      pub goes_stands : HaveGot ss advanced xs → parked_in x'.program ≡ None
+      abbrev goes_stands : HaveGot ss advanced xs → parked_in x'.program ≡ None
           → StandingFrom begun programs detaches boxes ds (lines ++ line ∷ []) (held_now xs (dues_settled due ss (slice_set h.dues i (Some turn.due)))) last ds'' (record mail' { settled = [] }) (Telling turn)
       goes_stands got idle =
           record {
@@ -261,7 +261,7 @@ module _ (begun : ℕ) (programs : List Program) (detaches : List Detach) (boxes
             subst (EachHeld h.shows programs due ended_tellers) (sym (advanced_is xs got))
             (set_held h.shows programs due s.tellers h.programs i w t end x x' s.each s.at.6.program s.at.3 there (on_its_way end_holds))
 
-        pub ends_stands : (mail'' : Mail) (stage : Stage) → dues_at ended_tellers stage ≡ map due_of ended_tellers
+        abbrev ends_stands : (mail'' : Mail) (stage : Stage) → dues_at ended_tellers stage ≡ map due_of ended_tellers
             → StandsAtFrom begun programs detaches boxes ds s.count (lines ++ line ∷ []) ended_tellers now last ds'' mail'' stage
             → StandingFrom begun programs detaches boxes ds (lines ++ line ∷ []) now last ds'' mail'' stage
         ends_stands mail'' stage plain at =
@@ -328,3 +328,200 @@ module _ (begun : ℕ) (programs : List Program) (detaches : List Detach) (boxes
               subst (λ (ls : List Line). Tells begun programs detaches boxes ds s.count ls ended_tellers (common_of ds'' m last)) lines_are at.0,
               at.1,
             )
+
+    -- ---- the next line
+
+    -- when the program is due behind an event, and where the host stands, where the turn goes on
+    due_on : (v : Event) (due : ℕ) → ends_turn v ≡ false → S.due_behind due v ≡ Some due
+    due_on (called c) due q = ap Some (omega arith)
+    due_on (answered v) due q = ap Some (omega arith)
+    due_on (paused ticks used) due q = cc
+    due_on (returned entry v) due q = ap Some (omega arith)
+    due_on (ended how) due q = cc
+    due_on (parked used) due q = ap Some (omega arith)
+    due_on (shown at bytes) due q = ap Some (omega arith)
+
+    stage_on : (v : Event) → ends_turn v ≡ false → S.stage_behind turn v ≡ Telling turn
+    stage_on (called c) q = refl
+    stage_on (answered v) q = refl
+    stage_on (paused ticks used) q = cc
+    stage_on (returned entry v) q = refl
+    stage_on (ended how) q = cc
+    stage_on (parked used) q = refl
+    stage_on (shown at bytes) q = refl
+
+    quiet_pause : (v : Event) → ends_turn v ≡ false → is_pause v ≡ false
+    quiet_pause (called c) q = refl
+    quiet_pause (answered v) q = refl
+    quiet_pause (paused ticks used) q = cc
+    quiet_pause (returned entry v) q = refl
+    quiet_pause (ended how) q = refl
+    quiet_pause (parked used) q = refl
+    quiet_pause (shown at bytes) q = refl
+
+    abbrev parked_if : Bool → Option Await → Option (List ℕ)
+    parked_if b o = if b then option_map (λ (r : Await). r.box) o else None
+
+    unparked : is_pause x_note.event ≡ false → parked_in x'.program ≡ None
+    unparked q = ap (λ b. parked_if b (receive_in x'.program)) (paused_is ∙ q)
+
+    module _ (xs : List Hosted) (got : HaveGot mail'.settled (slice_set h.programs i x') xs) (due : ℕ) (due_is : due ≡ suc turn.due) (co cn : List Counted) where
+      abbrev mail_then : Option (List ℕ) → Mail
+      mail_then o = record (with_waiting i o mail') { settled = [] }
+
+      -- one line more, where the program is then due at this tick and the host stands here
+      abbrev Goal : Option (List ℕ) → Option ℕ → Stage → Type 0
+      Goal o d stage =
+          TellsLineFrom begun programs detaches boxes ds lines s.tellers co cn mail line (held_now xs (dues_settled due mail'.settled (slice_set h.dues i d))) last ds'' (mail_then o) stage
+
+      module _ (takes : TakesCall programs line n.advances.met co cn mail (mail_then (parked_in x'.program))) where
+        goes_on_line : ends_turn x_note.event ≡ false → Goal (parked_in x'.program) (due_behind (is_some (parked_in x'.program)) turn.due e) (stage_behind (is_some (parked_in x'.program)) turn e)
+        goes_on_line q =
+            let idle = unparked (quiet_pause x_note.event q) in
+            let plain : e ≡ x_note.event = said ∙ told_plain (receive_in x'.program) x_note.event q in
+            let q_e : ends_turn e ≡ false = ap ends_turn plain ∙ q in
+            let d_is : due_behind (is_some (parked_in x'.program)) turn.due e ≡ Some turn.due = ap (λ o. due_behind (is_some o) turn.due e) idle ∙ due_on e turn.due q_e in
+            let st_is : stage_behind (is_some (parked_in x'.program)) turn e ≡ Telling turn = ap (λ o. stage_behind (is_some o) turn e) idle ∙ stage_on e q_e in
+            let stands = goes_stands q xs due due_is got idle in
+            let line_now : Goal None (Some turn.due) (Telling turn) =
+            record {
+              stands = stands;
+              met = n.advances.met;
+              meets = (T.goes begun programs detaches boxes ds lines h last ds' mail turn s x there x' e faults faults' ds'' mail' n stops q).meets;
+              takes = subst (λ o. TakesCall programs line n.advances.met co cn mail (mail_then o)) idle takes;
+            } in
+            subst (λ (st : Stage). Goal (parked_in x'.program) (due_behind (is_some (parked_in x'.program)) turn.due e) st) (sym st_is)
+            (subst (λ (d : Option ℕ). Goal (parked_in x'.program) d (Telling turn)) (sym d_is) (subst (λ o. Goal o (Some turn.due) (Telling turn)) (sym idle) line_now))
+
+        module _ (ends : ends_turn x_note.event ≡ true) where
+          met_none : n.advances.met ≡ []
+          met_none = (takes_none ends).0
+
+          end_due_now : t.due ≡ turn.due
+          end_due_now = T.due_now begun programs detaches boxes ds lines h last ds' mail turn s x there
+
+          -- from where it stands
+          ended_line : (o : Option (List ℕ)) → parked_in x'.program ≡ o → (d : Option ℕ) → d ≡ due_of (end ends) → (stage : Stage) → dues_at (ended_tellers ends) stage ≡ map due_of (ended_tellers ends)
+              → StandsAtFrom begun programs detaches boxes ds s.count (lines ++ line ∷ []) (ended_tellers ends) (held_now xs (dues_settled due mail'.settled (slice_set h.dues i d))) last ds'' (mail_then o) stage
+              → Goal o d stage
+          ended_line o p d d_is stage plain at =
+              record {
+                stands = ends_stands ends xs got due d d_is (mail_then o) stage plain at;
+                met = n.advances.met;
+                meets = subst (λ (os : List Outcome). MeetMore i os s.tellers (ended_tellers ends)) (sym met_none) (law ends).2;
+                takes = subst (λ q. TakesCall programs line n.advances.met co cn mail (mail_then q)) p takes;
+              }
+
+          plain_mail : mail_then None ≡ record { boxes = mail.boxes; settled = [] }
+          plain_mail = λ j. record { boxes = boxes_is ends j; settled = [] }
+
+          waiting_mail : (r : Await) → mail_then (Some r.box) ≡ record { boxes = parked_boxes i (Some r) mail.boxes; settled = [] }
+          waiting_mail r = λ j. record { boxes = at_box (awaited i) r.box (boxes_is ends j); settled = [] }
+
+          -- a pause
+          pause_line : (ticks used : ℕ) → x_note.event ≡ paused ticks used → (o : Option Await) → receive_in x'.program ≡ o
+              → Goal (option_map (λ (r : Await). r.box) o) (due_behind (is_some (option_map (λ (r : Await). r.box) o)) turn.due (told_pause o (paused ticks used)))
+              (stage_behind (is_some (option_map (λ (r : Await). r.box) o)) turn (told_pause o (paused ticks used)))
+          pause_line ticks used is None r =
+              let paused_now : parked_in x'.program ≡ None = λ j. parked_if ((paused_is ∙ ap is_pause is) j) (r j) in
+              let t_receive : t.receive ≡ None = sym (receive_is ends) ∙ r in
+              let d_is : Some (turn.due + ticks) ≡ due_of (end ends) =
+              ap Some (let z = end_due_now in omega (arith, z))
+              ∙ (λ j. if_going (is_end (sym is j) || false) (unless_waiting (sym t_receive j) (t.due + (ticks_in (sym is j) + 0)))) in
+              ended_line None paused_now (Some (turn.due + ticks)) d_is Between refl
+              (at_pause ends xs got due (Some (turn.due + ticks)) d_is ticks used is None t_receive (mail_then None) plain_mail)
+          pause_line ticks used is (Some r) q =
+              let paused_now : parked_in x'.program ≡ Some r.box = λ j. parked_if ((paused_is ∙ ap is_pause is) j) (q j) in
+              let t_receive : t.receive ≡ Some r = sym (receive_is ends) ∙ q in
+              let d_is : None ≡ due_of (end ends) = λ j. if_going (is_end (sym is j) || false) (unless_waiting (sym t_receive j) (t.due + (ticks_in (sym is j) + 0))) in
+              ended_line (Some r.box) paused_now None d_is Between refl
+              (at_pause ends xs got due None d_is ticks used is (Some r) t_receive (mail_then (Some r.box)) (waiting_mail r))
+
+          -- an end
+          end_line : (how : End) → x_note.event ≡ ended how → Goal None None (Showing turn 0)
+          end_line how is =
+              let d_is : None ≡ due_of (end ends) = λ j. if_going (is_end (sym is j) || false) (unless_waiting t.receive (t.due + (ticks_in (sym is j) + 0))) in
+              ended_line None (unparked (ap is_pause is)) None d_is (Showing turn 0) refl (at_end ends xs got due None d_is how is (mail_then None) plain_mail)
+
+          ends_line : Goal (parked_in x'.program) (due_behind (is_some (parked_in x'.program)) turn.due e) (stage_behind (is_some (parked_in x'.program)) turn e)
+          ends_line = by x_note.event refl
+            where
+              by : (v : Event) → x_note.event ≡ v → Goal (parked_in x'.program) (due_behind (is_some (parked_in x'.program)) turn.due e) (stage_behind (is_some (parked_in x'.program)) turn e)
+              by (paused ticks used) is =
+                  let r = receive_in x'.program in
+                  let p : option_map (λ (q : Await). q.box) r ≡ parked_in x'.program = sym (ap (λ b. parked_if b r) (paused_is ∙ ap is_pause is)) in
+                  let e_is : told_pause r (paused ticks used) ≡ e = sym (said ∙ ap (told_pause r) is) in
+                  subst (λ (v : Event). Goal (parked_in x'.program) (due_behind (is_some (parked_in x'.program)) turn.due v) (stage_behind (is_some (parked_in x'.program)) turn v)) e_is
+                  (subst (λ o. Goal o (due_behind (is_some o) turn.due (told_pause r (paused ticks used))) (stage_behind (is_some o) turn (told_pause r (paused ticks used)))) p
+                  (pause_line ticks used is r refl))
+              by (ended how) is =
+                  let p = unparked (ap is_pause is) in
+                  let e_is : ended how ≡ e = sym (said ∙ ap (told_pause (receive_in x'.program)) is ∙ told_end (receive_in x'.program) how) in
+                  subst (λ (v : Event). Goal (parked_in x'.program) (due_behind (is_some (parked_in x'.program)) turn.due v) (stage_behind (is_some (parked_in x'.program)) turn v)) e_is
+                  (subst (λ o. Goal o (due_behind (is_some o) turn.due (ended how)) (stage_behind (is_some o) turn (ended how))) (sym p) (end_line how is))
+              by (called c) is = let z : false ≡ true = sym (ap ends_turn is) ∙ ends in absurd cc
+              by (answered v) is = let z : false ≡ true = sym (ap ends_turn is) ∙ ends in absurd cc
+              by (returned entry v) is = let z : false ≡ true = sym (ap ends_turn is) ∙ ends in absurd cc
+              by (parked used) is = let z : false ≡ true = sym (ap ends_turn is) ∙ ends in absurd cc
+              by (shown at bytes) is = let z : false ≡ true = sym (ap ends_turn is) ∙ ends in absurd cc
+
+        pub line_told : (d : Option ℕ) (stage : Stage) → d ≡ due_behind (is_some (parked_in x'.program)) turn.due e → stage ≡ stage_behind (is_some (parked_in x'.program)) turn e
+            → Goal (parked_in x'.program) d stage
+        line_told d stage d_is st_is =
+            subst (λ (st : Stage). Goal (parked_in x'.program) d st) (sym st_is)
+            (subst (λ (v : Option ℕ). Goal (parked_in x'.program) v (stage_behind (is_some (parked_in x'.program)) turn e)) (sym d_is) (by (ends_turn x_note.event) refl))
+          where
+            by : (b : Bool) → ends_turn x_note.event ≡ b → Goal (parked_in x'.program) (due_behind (is_some (parked_in x'.program)) turn.due e) (stage_behind (is_some (parked_in x'.program)) turn e)
+            by true q = ends_line q
+            by false q = goes_on_line q
+
+    -- ---- what the call took
+
+    call_quiet : (v : Event) (c : Call) → call_in v ≡ Some c → is_pause v ≡ false
+    call_quiet (called c') c q = refl
+    call_quiet (answered v) c q = refl
+    call_quiet (paused ticks used) c q = cc
+    call_quiet (returned entry v) c q = refl
+    call_quiet (ended how) c q = refl
+    call_quiet (parked used) c q = refl
+    call_quiet (shown at bytes) c q = refl
+
+    module _ (co cn : List Counted) (d : devices_of co ≡ ds') (f : faults_of co ≡ faults) (d' : devices_of cn ≡ ds'') (f' : faults_of cn ≡ faults') where
+      abbrev mail_now : Mail
+      mail_now = record (with_waiting i (parked_in x'.program) mail') { settled = [] }
+
+      abbrev Takes : Option Call → Type 0
+      Takes o = MatchOption o ((n.advances.met ≡ []) × (cn ≡ co)) (λ c. CallTakes w c n.advances.met co cn mail mail_now)
+
+      takes_by : (o : Option Call) → call_in x_note.event ≡ o → TakesMail w o old n.advances.met new → Takes o
+      takes_by None is h = (h.0, counted_same co cn (d' ∙ ap (λ (z : MailSupply). z.amid.devices) h.1 ∙ sym d) (f' ∙ ap (λ (z : MailSupply). z.faults) h.1 ∙ sym f))
+      takes_by (Some c) is h =
+          let idle : parked_in x'.program ≡ None = unparked (call_quiet x_note.event c is) in
+          let old_is : old ≡ record { lines = lines_left x.program; amid = amid_of (devices_of co) mail (receive_in x.program); faults = faults_of co } =
+          λ j. record { lines = lines_left x.program; amid = amid_of (sym d j) mail (receive_in x.program); faults = sym f j } in
+          let new_is : new ≡ record { lines = lines_left x'.program; amid = amid_of (devices_of cn) (record mail_now { settled = mail'.settled }) (receive_in x'.program); faults = faults_of cn } =
+          λ j. record {
+            lines = lines_left x'.program;
+            amid = amid_of (sym d' j) (record (with_waiting i (sym idle j) mail') { settled = mail'.settled }) (receive_in x'.program);
+            faults = sym f' j;
+          } in
+          record {
+            answers = lines_left x.program;
+            left = lines_left x'.program;
+            before = receive_in x.program;
+            behind = receive_in x'.program;
+            sent = mail'.settled;
+            outcome = h.0;
+            met_is = h.1;
+            takes = subst (λ (z : MailSupply). MailAnswers w c z h.0 (record { lines = lines_left x'.program;
+                amid = amid_of (devices_of cn) (record mail_now { settled = mail'.settled }) (receive_in x'.program); faults = faults_of cn })) old_is
+                (subst (MailAnswers w c old h.0) new_is h.2);
+          }
+
+      pub line_takes : TakesCall programs line n.advances.met co cn mail mail_now
+      line_takes =
+          record {
+            w = w;
+            program = s.at.6.program;
+            takes = subst Takes (sym (ap call_in said ∙ no_call_parked (receive_in x'.program) x_note.event)) (takes_by (call_in x_note.event) refl n.advances.takes);
+          }
