@@ -18,6 +18,7 @@ pub mod MailGot
 pub mod MailHeld
 pub mod MailLines
 pub mod MailNext
+pub mod MailStages
 pub mod MailTells
 pub mod MailWaits
 pub mod Notes
