@@ -19,6 +19,9 @@ pub mod MailHeld
 pub mod MailLines
 pub mod MailNext
 pub mod MailStages
+pub mod MailFewTurns
+pub mod MailStarts
+pub mod MailWorlds
 pub mod MailTells
 pub mod MailWaits
 pub mod Notes

@@ -8,11 +8,14 @@ ghost use Rattle.world_model.specs.World.{Device, Program as WorldProgram};
 ghost use Rattle.device_port.specs.Listed.{of_all};
 ghost use Rattle.host_laws.specs.Supplies.{IsLent};
 ghost use Rattle.event_order.specs.Dues.{HaveEnded};
+ghost use Rattle.mailbox_device.specs.Mail.{empty_mail};
 ghost use Rattle.snapshot_store.specs.Parts.{CountsFit};
 ghost use Rattle.snapshot_store.specs.Views.{record_of, snapshot_of};
 ghost use Rattle.many_host.specs.Calls.{BegunNext, left_at, AreLeft};
 ghost use Rattle.many_host.specs.Standing.{InRange, IsTelling, LooksOut, due_told, held_of};
 ghost use Rattle.many_host.specs.Hosts.{AreResumed, AreSetUp, HostNext, HostNextFrom, HostTold, HostToldFrom, dues_left, follows, has_ended, memory_of};
+ghost use Rattle.many_host.specs.MailHosts.{HostTellsFrom, HostTellsNext, NoneWaits};
+ghost use Rattle.many_host.specs.MailStanding.{AllOver, IsTelling as IsTellingMail};
 ghost use Rattle.many_host.specs.Saving.{CanBeSaved, IsSaved, saved_of};
 ghost use Rattle.many_host.specs.Turns.{unless};
 
@@ -21,6 +24,7 @@ use crate::saving::saved_records;
 use crate::turn_taking::{Turns, first_dues};
 use device_port::Devices;
 use event_order::Show;
+use mailbox_device::Mailboxes;
 use pause_host::Program;
 use snapshot_store::Snapshot;
 use std::alloc::{AllocError, Global};
@@ -45,6 +49,8 @@ impl<'m> Host<'m> {
         ensures range { IfOk result (λ h. InRange h.turns) }
         ensures begun { IfOk result (λ h. h.turns.begun ≡ 0) }
         ensures told { (ws : List WorldProgram) (ds : List Device) → AreSetUp ws shows.items programs.entry.items → IfOk result (λ h. HostTold ws detaches.items ds [] h ds) }
+        ensures mail { (ws : List WorldProgram) (ds : List Device) (names : List (List ℕ)) → AreSetUp ws shows.items programs.entry.items → NoneWaits programs.entry.items
+            → IfOk result (λ h. HostTellsFrom 0 ws detaches.items names ds [] h ds (empty_mail names)) }
     {
         let held = held_programs(alloc, programs)?;
         let dues = first_dues(alloc, &held)?;
@@ -73,6 +79,8 @@ impl<'m> Host<'m> {
         ensures begun { IfOk result (λ h. h.turns.begun ≡ events) }
         ensures told { (ws : List WorldProgram) (ds : List Device) → AreResumed ws shows.items programs.entry.items dues.items ended.items
             → IfOk result (λ h. HostToldFrom events ws detaches.items ds [] h ds) }
+        ensures mail { (ws : List WorldProgram) (ds : List Device) (names : List (List ℕ)) → AreResumed ws shows.items programs.entry.items dues.items ended.items → NoneWaits programs.entry.items
+            → IfOk result (λ h. HostTellsFrom events ws detaches.items names ds [] h ds (empty_mail names)) }
     {
         let held = held_programs(alloc, programs)?;
         let dues = resumed_dues(alloc, &dues, &ended)?;
@@ -115,6 +123,38 @@ impl<'m> Host<'m> {
         ensures same { IfOk result (λ line. MatchOption line (self.new ≡ self.old) (λ l. Unit {0})) }
     {
         self.turns.next(devices)
+    }
+
+    /// The next line, with the tick at which its event began, of programs that ask mailboxes too. A program that receives at an empty mailbox
+    /// parks with its next pause, and goes on once it is sent a value; where none is due the first that is parked ends there, and tells it.
+    /// None exactly where all programs have ended and all shows are out, and host, devices and mailboxes are then as they were. After want of
+    /// memory it isn't called again.
+    pub fn next(
+        &mut self,
+        devices: &mut Devices<'_>,
+        mail: &mut Mailboxes,
+    ) -> Result<Option<Line>, AllocError>
+        requires lent { IsLent }
+        requires range { InRange self.old.turns }
+        requires tells { IsTellingMail (held_of self.old.turns) self.old.turns.last (of_all seen devices.old) mail.old self.old.turns.stage }
+        ensures range { IfOk result (λ line. InRange self.new.turns) }
+        ensures same_list { devices.new.list.ghost_name ≡ devices.old.list.ghost_name }
+        ensures told { (begun : ℕ) (programs : List WorldProgram) (detaches : List Detach) (boxes : List (List ℕ)) (ds : List Device) (lines : List WorldLine)
+            (told : HostTellsFrom begun programs detaches boxes ds lines self.old (of_all seen devices.old) mail.old)
+            → IfOk result (HostTellsNext begun programs detaches boxes ds lines told.tellers (of_all (λ d. record { device = seen d; faults = faults d }) devices.old)
+            (left_at self.old.turns.begun self.new.turns.begun detaches (of_all (λ d. record { device = seen d; faults = faults d }) devices.old))
+            (of_all (λ d. record { device = seen d; faults = faults d }) devices.new) mail.old self.new (of_all seen devices.new) mail.new) }
+        ensures left { (begun : ℕ) (programs : List WorldProgram) (detaches : List Detach) (boxes : List (List ℕ)) (ds : List Device) (lines : List WorldLine)
+            → HostTellsFrom begun programs detaches boxes ds lines self.old (of_all seen devices.old) mail.old
+            → IsErr result → AreLeft self.old.turns.begun detaches (of_all (λ d. record { device = seen d; faults = faults d }) devices.old)
+            (of_all (λ d. record { device = seen d; faults = faults d }) devices.new) }
+        ensures none { IfOk result (λ line. MatchOption line (AllOver self.old.turns × LooksOut self.old.turns.shows.items self.old.turns.stage)
+            (λ l. AllOver self.old.turns → LooksOut self.old.turns.shows.items self.old.turns.stage → ⊥)) }
+        ensures begun { IfOk result (λ line. BegunNext self.old.turns.stage self.old.turns.begun self.new.turns.begun line) }
+        ensures goes_on { (LooksOut self.old.turns.shows.items self.old.turns.stage → ⊥) → self.new.turns.begun ≡ self.old.turns.begun }
+        ensures same { IfOk result (λ line. MatchOption line ((self.new ≡ self.old) × (mail.new ≡ mail.old)) (λ l. Unit {0})) }
+    {
+        self.turns.next_with_mail(devices, mail)
     }
 
     /// How many events have begun.

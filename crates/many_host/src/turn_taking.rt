@@ -61,6 +61,9 @@ impl<T: Teller + Drop> Turns<T> {
         ensures begun { result.begun ≡ begun }
         ensures stands { (ws : List Program) (ds : List Device) → AllStart T.follows T.has_ended shows.items ws programs.items dues.items
             → StandingFrom begun T.follows T.has_ended T.memory ws detaches.items ds [] (held_of result) ds result.stage }
+        ensures held { held_of result ≡ record { programs = programs.items; dues = dues.items; detaches = detaches.items; shows = shows.items; begun = begun; earlier = begun } }
+        ensures last { result.last ≡ 0 }
+        ensures between { result.stage ≡ Stage.Between }
     {
         Turns {
             alloc,

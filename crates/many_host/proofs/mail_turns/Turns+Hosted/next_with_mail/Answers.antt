@@ -6,7 +6,7 @@ use Rattle.many_host.specs.declared.turn_taking.Stage.{Stage}
 use Rattle.many_host.specs.Calls.{BegunBy, BegunNext}
 use Rattle.many_host.specs.Standing.{LooksOut, held_of}
 use Rattle.many_host.proofs.MailStages.{mail_line_from, mail_standing}
-use Rattle.many_host.proofs.mail_turns.Turns+Hosted.+next_with_mail.Goals as goal
+use Rattle.many_host.proofs.mail_turns.Turns+Hosted.next_with_mail.Goals as goal
 
 pub returns-in-Between-clause-told : goal.returns-in-Between-clause-told
 returns-in-Between-clause-told g c = λ begun programs detaches boxes ds lines s.

@@ -11,7 +11,7 @@ use Rattle.many_host.proofs.Counts.{are_left, begun_behind, left_kept}
 use Rattle.many_host.proofs.MailStages.{mail_all_shown, mail_line_from, mail_shown_line}
 use Rattle.many_host.proofs.Showing.{looks_left, none_out}
 use Rattle.many_host.proofs.TurnPlaces.{stands_at}
-use Rattle.many_host.proofs.mail_turns.Turns+Hosted.+show_next.Goals as goal
+use Rattle.many_host.proofs.mail_turns.Turns+Hosted.show_next.Goals as goal
 
 pub returns-in_default-clause-told : goal.returns-in_default-clause-told
 returns-in_default-clause-told g c = λ begun programs detaches boxes ds lines s.

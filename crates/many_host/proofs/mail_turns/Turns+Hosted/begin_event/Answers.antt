@@ -6,7 +6,7 @@ use Rattle.many_host.proofs.DueTicks.{due_at, dues_later}
 use Rattle.many_host.proofs.Counts.{are_left, left_began, left_when_begun}
 use Rattle.many_host.proofs.Beginning.{due_within}
 use Rattle.many_host.proofs.MailStages.{mail_begun_at, mail_line_from}
-use Rattle.many_host.proofs.mail_turns.Turns+Hosted.+begin_event.Goals as goal
+use Rattle.many_host.proofs.mail_turns.Turns+Hosted.begin_event.Goals as goal
 
 pub stall_first-requires-clause-none : goal.stall_first-requires-clause-none
 stall_first-requires-clause-none g c = subst (λ (l : List (Option ℕ)). NoneDue l) c.deref.ensures.value c.in_default.ensures
