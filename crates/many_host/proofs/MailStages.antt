@@ -73,10 +73,10 @@ module _ (begun : ℕ) (programs : List Program) (detaches : List Detach) (boxes
   abbrev i : ℕ
   i = turn.program
 
-  least_is : IsLeast (map due_of s.tellers) i turn.due
+  pub least_is : IsLeast (map due_of s.tellers) i turn.due
   least_is = subst (λ (l : List (Option ℕ)). IsLeast l i turn.due) s.dues (least_of h.dues i turn.due due_next)
 
-  w : (w : Program) × (slice_get programs i ≡ Some w)
+  pub w : (w : Program) × (slice_get programs i ≡ Some w)
   w = item programs i (omega (arith, slice_get_within (map due_of s.tellers) i (Some turn.due) least_is.there, length-map s.tellers due_of, s.wide))
 
   abbrev begun_now : ℕ → Held Hosted
@@ -86,16 +86,16 @@ module _ (begun : ℕ) (programs : List Program) (detaches : List Detach) (boxes
       × TellsOnFrom begun programs detaches boxes ds s.count i turn.due lines s.tellers (record (amid_of (detached (suc (begun + s.count)) detaches ds') mail None) { settled = [] })
   law = mail_turn_begins begun programs detaches boxes ds ds' mail s.count last i turn.due lines s.tellers w.0 s.at.0 s.at.1 w.1 least_is
 
-  awake_now : (x : Hosted) → slice_get h.programs i ≡ Some x → parked_in x.program ≡ None
+  pub awake_now : (x : Hosted) → slice_get h.programs i ≡ Some x → parked_in x.program ≡ None
   awake_now x there = awake_held h.shows i w.0 law.0 x (s.each i w.0 law.0 x w.1 law.1 there) law.2 law.3
 
-  number_is : (next : ℕ) → next ≡ h.begun + 1 → suc (begun + s.count) ≡ next
+  pub number_is : (next : ℕ) → next ≡ h.begun + 1 → suc (begun + s.count) ≡ next
   number_is next is = let b = s.begun_is in omega (arith, b, is)
 
-  next_begun : (next : ℕ) → next ≡ h.begun + 1 → begun + suc s.count ≡ next
+  pub next_begun : (next : ℕ) → next ≡ h.begun + 1 → begun + suc s.count ≡ next
   next_begun next is = let b = s.begun_is in omega (arith, b, is)
 
-  on_its_turn : (next : ℕ) (own : List Detach) (es : List Device) → next ≡ h.begun + 1 → own ≡ h.detaches → es ≡ detached next own ds'
+  pub on_its_turn : (next : ℕ) (own : List Detach) (es : List Device) → next ≡ h.begun + 1 → own ≡ h.detaches → es ≡ detached next own ds'
       → TellsOnFrom begun programs detaches boxes ds s.count i turn.due lines s.tellers (amid_of es (record mail { settled = [] }) law.0.receive)
   on_its_turn next own es is own_is out =
       let number = number_is next is in
