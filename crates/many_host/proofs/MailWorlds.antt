@@ -1,4 +1,4 @@
--- What a host with mailboxes has told, as a run of a world.
+-- What a host with mailboxes has told, as a world's run.
 use Rattle.std.proofs.Common.{arith, ◌≡◌, ℕ, List, Option, Some, None, slice_get, sym, subst}
 use Rattle.std.specs.Prelude.{MatchOption}
 use Rattle.std.specs.List.{AllZip}
@@ -11,41 +11,53 @@ use Rattle.world_laws.proofs.Places.{item, zipped}
 use Rattle.event_order.specs.Left.{Counted}
 use Rattle.mailbox_device.specs.Mail.{Mail}
 use Rattle.mail_laws.specs.MailWorld.{ProtocolWorldFrom}
-use Rattle.mail_laws.specs.Told.{HasStory, HaveEnded, Teller}
+use Rattle.mail_laws.specs.Told.{HasStory, HaveEnded, HaveMet, Teller}
+use Rattle.mail_laws.proofs.PlayedAreTold.{told_goes_on}
 use Rattle.mail_laws.proofs.ToldAreWorlds.{all_told_is_world}
-use Rattle.many_host.specs.MailHosts.{HaveMet, HostTellsNext}
+use Rattle.many_host.specs.MailHosts.{HostTellsNext}
 use Rattle.many_host.specs.MailStanding.{AllTold, StandingFrom, TellsNext, common_of}
 use Rattle.many_host.specs.Standing.{Held, held_of}
+use Rattle.many_host.specs.ToldMail.{MailToldBegins, MailToldWhole}
 use Rattle.many_host.specs.declared.host.Host.{Host}
 use Rattle.many_host.specs.declared.hosted.Hosted.{Hosted}
 use Rattle.many_host.specs.declared.turn_taking.Stage.{Stage}
-use Rattle.many_host.specs.declared.turn_taking.Stage.TheVariants.{Between}
 use Rattle.many_host.specs.declared.turn_taking.Turns.{Turns}
-use Rattle.many_host.proofs.MailStories.{held_stories}
+use Rattle.many_host.proofs.MailStories.{held_has_story}
 
-module _ (begun : ℕ) (programs : List Program) (detaches : List Detach) (boxes : List (List ℕ)) (ds : List Device) (lines : List Line) (h : Held Hosted) (last : ℕ) (ds' : List Device) (mail : Mail)
-    where
-  pub all_stories : (stage : Stage) (s : StandingFrom begun programs detaches boxes ds lines h last ds' mail stage) → AllZip HasStory programs s.tellers
-  all_stories stage s = zipped HasStory programs s.tellers s.wide each
+pub mail_told_begins : MailToldBegins
+mail_told_begins begun programs detaches boxes ds es mail count last lines tellers tells all = told_goes_on begun programs detaches boxes ds count lines tellers (common_of es mail last) tells all
+
+pub mail_told_whole : MailToldWhole
+mail_told_whole begun programs detaches boxes ds es mail count last lines tellers tells all over =
+    all_told_is_world begun programs detaches boxes ds count lines tellers (common_of es mail last) tells all over
+
+module _ (begun : ℕ) (programs : List Program) (detaches : List Detach) (boxes : List (List ℕ)) (ds : List Device) (lines : List Line) (h : Held Hosted) (last : ℕ) (ds' : List Device) (mail : Mail) where
+  -- what each program of a host has told begins its story
+  pub stories_held : (stage : Stage) (s : StandingFrom begun programs detaches boxes ds lines h last ds' mail stage) → AllZip HasStory programs s.tellers
+  stories_held stage s = zipped HasStory programs s.tellers s.wide each
     where
       each : (i : ℕ) (w : Program) (t : Teller) → slice_get programs i ≡ Some w → slice_get s.tellers i ≡ Some t → HasStory w t
       each i w t ew et =
           let x = item h.programs i (omega (arith, slice_get_within programs i w ew, s.as_many)) in
-          held_stories h.shows i w t x.0 (s.each i w t x.0 ew et x.1)
+          held_has_story h.shows i w t x.0 (s.each i w t x.0 ew et x.1)
 
-  whole_at : (tellers : List Teller) (old new : List Counted) → AllTold begun programs detaches boxes ds lines tellers old new h last ds' mail
+  -- once all have ended
+  pub whole_told : (tellers : List Teller) (old new : List Counted) → AllTold begun programs detaches boxes ds lines tellers old new h last ds' mail
       → (world : ProtocolWorldFrom begun programs detaches boxes ds lines ds') × HaveMet tellers world.actors × (new ≡ old)
-  whole_at tellers old new t =
-      let run = all_told_is_world begun programs detaches boxes ds t.stands.count lines t.stands.tellers (common_of ds' mail last) t.stands.at.0 (all_stories Between t.stands)
-      (subst HaveEnded (sym t.tellers_are) t.have_ended) in
-      (run.0, subst (λ (l : List Teller). HaveMet l run.0.actors) t.tellers_are run.1, t.kept)
+  whole_told tellers old new a =
+      let over : HaveEnded a.stands.tellers = subst HaveEnded (sym a.tellers_are) a.have_ended in
+      let run = mail_told_whole begun programs detaches boxes ds ds' mail a.stands.count last lines a.stands.tellers a.stands.at.0 (stories_held _ a.stands) over in
+      (run.0, subst (λ (l : List Teller). HaveMet l run.0.actors) a.tellers_are run.1, a.kept)
 
+-- ---- a host
+
+-- what it tells next
 pub host_tells_next : (begun : ℕ) (programs : List Program) (detaches : List Detach) (boxes : List (List ℕ)) (ds : List Device) (lines : List Line) (tellers : List Teller)
     (old left new : List Counted) (mail : Mail) (h : Host) (ds' : List Device) (mail' : Mail) (result : Option LineValue)
     → TellsNext begun programs detaches boxes ds lines tellers old left new mail h.turns ds' mail' result
     → HostTellsNext begun programs detaches boxes ds lines tellers old left new mail h ds' mail' result
 host_tells_next begun programs detaches boxes ds lines tellers old left new mail h ds' mail' None t =
-    whole_at begun programs detaches boxes ds lines (held_of h.turns) h.turns.last ds' mail' tellers old new t
+    whole_told begun programs detaches boxes ds lines (held_of h.turns) h.turns.last ds' mail' tellers old new t
 host_tells_next begun programs detaches boxes ds lines tellers old left new mail h ds' mail' (Some line) t = t
 
 -- where there is no line, the host and the mailboxes are as they were

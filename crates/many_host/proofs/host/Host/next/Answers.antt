@@ -1,5 +1,5 @@
 use Rattle.std.proofs.lemmas.Result.{IfOk-weaker}
-use Rattle.many_host.proofs.MailFewTurns.{few_mail_turns}
+use Rattle.many_host.proofs.MailFew.{few_mail_turns}
 use Rattle.many_host.proofs.MailWorlds.{host_tells_next, same_mail_host}
 use Rattle.many_host.specs.Standing.{held_of}
 use Rattle.many_host.proofs.host.Host.next.Goals as goal
