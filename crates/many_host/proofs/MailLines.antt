@@ -597,3 +597,8 @@ settled_early most due (s ∷ ss) dues le h = settled_early most due ss (slice_s
 pub settled_many : (due : ℕ) (ss : List Settled) (dues : List (Option ℕ)) → length (dues_settled due ss dues) ≡ length dues
 settled_many due [] dues = refl
 settled_many due (s ∷ ss) dues = settled_many due ss (slice_set dues s.program (Some due)) ∙ length-set dues s.program (Some due)
+
+-- what there is of a name
+pub some_name : (o : Option (List ℕ)) → is_some o ≡ true → (name : List ℕ) × (o ≡ Some name)
+some_name None e = cc
+some_name (Some name) e = (name, refl)
