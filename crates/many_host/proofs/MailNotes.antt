@@ -74,11 +74,18 @@ teller_due tellers i due there =
     (x.0, x.1, is.0, is.1, sym is.2)
 
 -- the program of the least due tick
-awake_there : (tellers : List Teller) (i due : ℕ) (t : Teller) → IsLeast (map due_of tellers) i due → slice_get tellers i ≡ Some t → t.receive ≡ None
+pub awake_there : (tellers : List Teller) (i due : ℕ) (t : Teller) → IsLeast (map due_of tellers) i due → slice_get tellers i ≡ Some t → t.receive ≡ None
 awake_there tellers i due t least there =
     let d = teller_due tellers i due least.there in
     let same : d.0 ≡ t = same_Some d.0 t (sym d.1 ∙ there) in
     ap (λ (y : Teller). y.receive) (sym same) ∙ d.3
+
+-- who is due hasn't ended
+pub live_there : (tellers : List Teller) (i due : ℕ) (t : Teller) → IsLeast (map due_of tellers) i due → slice_get tellers i ≡ Some t → t.has_ended ≡ false
+live_there tellers i due t least there =
+    let d = teller_due tellers i due least.there in
+    let same : d.0 ≡ t = same_Some d.0 t (sym d.1 ∙ there) in
+    ap (λ (y : Teller). y.has_ended) (sym same) ∙ d.2
 
 pub mail_turn_awake : MailTurnAwake
 mail_turn_awake begun programs detaches boxes ds count i due lines tellers now on =
@@ -148,7 +155,7 @@ quiet_ends x e = by x.event e
     by (returned i v) h = refl
     by (shown i v) h = refl
 
-ends_none : (xs : List Note) → GoesOn xs → ends_program xs ≡ false
+pub ends_none : (xs : List Note) → GoesOn xs → ends_program xs ≡ false
 ends_none [] g = refl
 ends_none (y ∷ ys) g = ap (λ (b : Bool). b || ends_program ys) (quiet_ends y g.0) ∙ ends_none ys g.1
 
