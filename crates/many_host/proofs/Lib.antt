@@ -8,6 +8,7 @@ pub mod FewLines
 pub mod FewTurns
 pub mod Further
 pub mod KeptTables
+pub mod MailBegins
 pub mod MailBoxes
 pub mod MailFew
 pub mod MailKept

@@ -1,8 +1,10 @@
 -- Where a host with mailboxes stands behind a note of a turn.
-use Rattle.std.proofs.Common.{arith, ◌≡◌, ◌⊎◌, inl, inr, ◌<◌, ◌+◌, ◌++◌, ◌||◌, ℕ, suc, List, [], ◌∷◌, length, map, Option, Some, None, Bool, true, false, if◌then◌else◌, refl, sym, ap, ◌∙◌, subst, length-set, append-nil, append_assoc}
+use Rattle.std.proofs.Common.{arith, ◌≡◌, ◌⊎◌, inl, inr, ◌<◌, ◌≤◌, All, ◌+◌, ◌++◌, ◌||◌, ℕ, suc, List, [], ◌∷◌, length, map, Option, Some, None, Bool, true, false, if◌then◌else◌, refl, sym, ap, ◌∙◌, subst, length-set, append-nil, append_assoc}
 use Rattle.std.specs.Prelude.{MatchOption, is_some, slice_get, slice_set}
+use Rattle.std.specs.List.{find}
 use Rattle.std.specs.Option.{option_map}
 use Rattle.std.proofs.lemmas.List.{map-set, set-set, set_comm}
+use Rattle.std.proofs.lemmas.List.Elements.{All-set}
 use Rattle.std.proofs.lemmas.Option.{same_Some}
 use Rattle.wa_model.specs.declared.answers.Detach.{Detach}
 use Rattle.wa_model.specs.declared.events.End.{End}
@@ -17,7 +19,7 @@ use Rattle.event_order.specs.declared.turns.Turn.{Turn}
 use Rattle.event_order.specs.Left.{Counted}
 use Rattle.event_order.specs.Looks.{looks_of}
 use Rattle.mailbox_device.specs.declared.mailbox.Settled.{Settled}
-use Rattle.mailbox_device.specs.Mail.{Box, Mail, at_box, awaited}
+use Rattle.mailbox_device.specs.Mail.{Box, Mail, WaitsNowhere, at_box, awaited, is_box}
 use Rattle.mail_laws.specs.MailWorld.{is_pause as is_pause_told, parks, told_pause}
 use Rattle.mail_laws.specs.Told.{Amid, Await, Common, NotAmong, Teller, Tells, due_of, having_told, if_going, pending, parked_in as parked_boxes, settle_all, unless_waiting}
 use Rattle.pause_host.specs.Mailing.{MailAnswers, MailSupply, TakesMail, amid_of}
@@ -27,7 +29,7 @@ use Rattle.pause_host.proofs.Advancing.{told_end}
 use Rattle.pause_host.proofs.Stopping.{no_call_parked}
 use Rattle.many_host.specs.Calls.{devices_of, faults_of}
 use Rattle.many_host.specs.Hosts.{memory_of}
-use Rattle.many_host.specs.MailStanding.{CallTakes, HaveGot, IsHeld, MailStands, MeetMore, StandingFrom, StandsAtFrom, TakesCall, TellsLineFrom, common_of, due_behind, dues_at, dues_settled, met_so_far, on_its_way, stage_behind, with_waiting}
+use Rattle.many_host.specs.MailStanding.{AreParked, CallTakes, CanWait, HaveGot, IsHeld, MailStands, MeetMore, StandingFrom, StandsAtFrom, TakesCall, TellsLineFrom, common_of, due_behind, dues_at, dues_settled, met_so_far, on_its_way, stage_behind, with_waiting}
 use Rattle.many_host.specs.MailTurns.{TellsOnFrom}
 use Rattle.many_host.specs.ToldMail.{GoesOnBy, mail_behind, with_last}
 use Rattle.many_host.specs.Standing as S
@@ -37,7 +39,9 @@ use Rattle.many_host.specs.declared.turn_taking.Stage.{Stage}
 use Rattle.many_host.specs.declared.turn_taking.Stage.TheVariants.{Between, Telling, Showing}
 use Rattle.many_host.proofs.MailGot.{EachHeld, all_got, dues_got, many_got, many_held}
 use Rattle.many_host.proofs.MailNext.{next_held}
-use Rattle.many_host.proofs.MailNotes.{mail_turn_ends}
+use Rattle.many_host.proofs.DueTicks.{due_behind_it, place_behind}
+use Rattle.many_host.proofs.MailHeld.{IsParkedAt, parked_at}
+use Rattle.many_host.proofs.MailNotes.{mail_turn_awake, mail_turn_ends}
 use Rattle.many_host.proofs.MailSettled.{settle_out}
 use Rattle.many_host.proofs.MailTells as T
 use Rattle.many_host.proofs.MailTells.{set_held}
@@ -525,3 +529,76 @@ module _ (begun : ℕ) (programs : List Program) (detaches : List Detach) (boxes
             program = s.at.6.program;
             takes = subst Takes (sym (ap call_in said ∙ no_call_parked (receive_in x'.program) x_note.event)) (takes_by (call_in x_note.event) refl n.advances.takes);
           }
+
+    -- ---- what is asked on the way
+
+    -- those that were sent a value can go on with it
+    pub parked_settles : AreParked mail'.settled (slice_set h.programs i x')
+    parked_settles = by (ends_turn x_note.event) refl
+      where
+        by : (b : Bool) → ends_turn x_note.event ≡ b → AreParked mail'.settled (slice_set h.programs i x')
+        by true q = subst (λ (ss : List Settled). AreParked ss (slice_set h.programs i x')) (sym (settled_is q)) tt
+        by false q = T.parked_goes begun programs detaches boxes ds lines h last ds' mail turn s x there x' e faults faults' ds'' mail' n stops q
+
+    pause_ends : (v : Event) → is_pause v ≡ true → ends_turn v ≡ true
+    pause_ends (called c) q = cc
+    pause_ends (answered v) q = cc
+    pause_ends (paused ticks used) q = refl
+    pause_ends (returned entry v) q = cc
+    pause_ends (ended how) q = refl
+    pause_ends (parked used) q = cc
+    pause_ends (shown at bytes) q = cc
+
+    -- who is parked ended its turn by that
+    module _ (name : List ℕ) (is : parked_in x'.program ≡ Some name) where
+      abbrev p : IsParkedAt x'.program name
+      p = parked_at x'.program name is
+
+      parks_now : ends_turn x_note.event ≡ true
+      parks_now = pause_ends x_note.event (sym paused_is ∙ p.paused)
+
+      pub parked_devices : ds'' ≡ ds'
+      parked_devices = ds_is parks_now
+
+      pub parked_faults : faults' ≡ faults
+      parked_faults = ap (λ (z : MailSupply). z.faults) (takes_none parks_now).1
+
+      pub can_wait : CanWait i name mail'
+      can_wait =
+          let receive : t.receive ≡ Some p.r = sym (receive_is parks_now) ∙ p.receive in
+          let empty = s.at.6.stands.empty p.r receive in
+          record {
+            box = empty.0;
+            there = (λ j. find (is_box (sym p.box j)) (boxes_is parks_now j)) ∙ empty.1;
+            empty = empty.2;
+            nowhere = subst (WaitsNowhere i) (sym (boxes_is parks_now))
+                (mail_turn_awake begun programs detaches boxes ds s.at.0 i turn.due lines s.tellers (amid_of ds' (record mail { settled = s.at.4 }) t.receive) s.at.6);
+          }
+
+-- what a wait leaves of who is settled
+pub waiting_settled : (program : ℕ) (o : Option (List ℕ)) (m : Mail) → (with_waiting program o m).settled ≡ m.settled
+waiting_settled program None m = refl
+waiting_settled program (Some name) m = refl
+
+-- ---- numbers in range
+
+pub place_with : (b : Bool) (count : ℕ) (turn : Turn) (e : Event) → turn.program < count → S.PlaceFits count (stage_behind b turn e)
+place_with true count turn e h = tt
+place_with false count turn e h = place_behind count turn e h
+
+pub turn_with : (b : Bool) (earlier begun : ℕ) (turn : Turn) (e : Event) → turn.due + S.most_ticks ≤ S.latest earlier begun → S.TurnIsDue earlier begun (stage_behind b turn e)
+turn_with true earlier begun turn e h = tt
+turn_with false earlier begun turn e h = due_behind_it earlier begun turn e h
+
+pub settled_early : (most due : ℕ) (ss : List Settled) (dues : List (Option ℕ)) → due ≤ most → All (S.IsDueBy most) dues → All (S.IsDueBy most) (dues_settled due ss dues)
+settled_early most due [] dues le h = h
+settled_early most due (s ∷ ss) dues le h = settled_early most due ss (slice_set dues s.program (Some due)) le (All-set (S.IsDueBy most) dues s.program (Some due) le h)
+
+pub settled_many : (due : ℕ) (ss : List Settled) (dues : List (Option ℕ)) → length (dues_settled due ss dues) ≡ length dues
+settled_many due [] dues = refl
+settled_many due (s ∷ ss) dues = settled_many due ss (slice_set dues s.program (Some due)) ∙ length-set dues s.program (Some due)
+
+-- what there is of a name
+pub some_name : (o : Option (List ℕ)) → is_some o ≡ true → (name : List ℕ) × (o ≡ Some name)
+some_name None e = cc
+some_name (Some name) e = (name, refl)

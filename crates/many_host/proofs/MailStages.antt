@@ -1,34 +1,25 @@
--- A host with mailboxes between its turns: the next turn begins, and what is shown behind a program's end.
-use Rattle.std.proofs.Common.{arith, ◌≡◌, ◌+◌, ◌^◌, ℕ, suc, List, [], ◌∷◌, ◌++◌, map, drop, Option, Some, None, Bool, true, false, if◌then◌else◌, nat_eq, slice_get, slice_set, refl, sym, ap, ◌∙◌, subst, append_assoc, append-nil}
+-- Where a host with mailboxes is known to stand, and what is shown behind a program's end.
+use Rattle.std.proofs.Common.{arith, ◌≡◌, ◌+◌, ℕ, suc, List, [], ◌∷◌, ◌++◌, map, drop, Option, Some, None, Bool, true, false, if◌then◌else◌, nat_eq, slice_get, refl, sym, ap, ◌∙◌, subst, append_assoc, append-nil}
 use Rattle.std.specs.Option.{option_map}
-use Rattle.std.proofs.lemmas.List.{length-map}
 use Rattle.std.proofs.lemmas.Option.{same_Some, slice_get_within}
 use Rattle.wa_model.specs.declared.answers.Detach.{Detach}
 use Rattle.wa_model.specs.Outside.{Event, Line, shown}
 use Rattle.wa_model.specs.Plan.{Outcome}
-use Rattle.world_model.specs.World.{Device, Look, Program, bytes_shown, detached, line_at}
-use Rattle.world_laws.proofs.Places.{item, set_same}
+use Rattle.world_model.specs.World.{Device, Look, Program, bytes_shown, line_at}
+use Rattle.world_laws.proofs.Places.{item}
 use Rattle.event_order.specs.declared.shows.Show.{Show}
 use Rattle.event_order.specs.declared.turns.Turn.{Turn}
-use Rattle.event_order.specs.Dues as D
 use Rattle.event_order.specs.Left.{Counted}
 use Rattle.event_order.specs.Looks.{IsNextShow, look_of, looks_of}
 use Rattle.mailbox_device.specs.Mail.{Mail}
-use Rattle.mail_laws.specs.Told.{Amid, Await, IsLeast, Teller, Tells, due_of}
-use Rattle.pause_host.specs.Mailing.{amid_of}
+use Rattle.mail_laws.specs.Told.{Await, Teller, Tells}
 use Rattle.pause_host.specs.Programs.{is_at_pause, parked_in, receive_in}
 use Rattle.many_host.specs.Hosts.{memory_of}
-use Rattle.many_host.specs.MailStanding.{Holds, MeetMore, StandingFrom, StandsAtFrom, TakesCall, TellsLineFrom, common_of, dues_at, has_gone, has_stalled, met_so_far, on_its_way}
-use Rattle.many_host.specs.MailTurns.{TellsOnFrom}
+use Rattle.many_host.specs.MailStanding.{MeetMore, StandingFrom, StandsAtFrom, TakesCall, TellsLineFrom, common_of, dues_at, met_so_far}
 use Rattle.many_host.specs.Standing.{Held, looks_at}
 use Rattle.many_host.specs.declared.hosted.Hosted.{Hosted}
 use Rattle.many_host.specs.declared.turn_taking.Stage.{Stage}
-use Rattle.many_host.specs.declared.turn_taking.Stage.TheVariants.{Between, Telling, Showing}
-use Rattle.many_host.proofs.MailNotes.{mail_turn_begins}
-
--- the least due tick, as worlds with mailboxes have it
-pub least_of : (dues : List (Option ℕ)) (i due : ℕ) → D.IsLeast dues i due → IsLeast dues i due
-least_of dues i due l = record { there = l.there; least = l.least }
+use Rattle.many_host.specs.declared.turn_taking.Stage.TheVariants.{Between, Showing}
 
 abbrev parked_if : Bool → Option Await → Option (List ℕ)
 parked_if b o = if b then option_map (λ (r : Await). r.box) o else None
@@ -40,12 +31,6 @@ none_if false = refl
 -- who has no receive that wasn't answered isn't parked
 pub not_parked : (x : Hosted) → receive_in x.program ≡ None → parked_in x.program ≡ None
 not_parked x e = ap (λ (o : Option Await). parked_if (is_at_pause x.program.state) o) e ∙ none_if (is_at_pause x.program.state)
-
--- so one that is awake and goes on
-pub awake_held : (shows : List Show) (i : ℕ) (w : Program) (t : Teller) (x : Hosted) → Holds shows i w t x → t.has_ended ≡ false → t.receive ≡ None → parked_in x.program ≡ None
-awake_held shows i w t x (on_its_way h) goes none = not_parked x (h.follow.2 ∙ none)
-awake_held shows i w t x (has_stalled h) goes none = let z : false ≡ true = sym goes ∙ h.ended in absurd cc
-awake_held shows i w t x (has_gone over told looks idle) goes none = idle
 
 -- ---- where it is known to stand
 
@@ -65,60 +50,6 @@ mail_standing begun programs detaches boxes ds lines h last ds' mail stage stage
       begun_is = s.begun_is;
       at = subst (λ (g : Stage). StandsAtFrom begun programs detaches boxes ds s.count lines s.tellers h last ds' mail g) is s.at;
     }
-
--- ---- the next turn begins
-
-module _ (begun : ℕ) (programs : List Program) (detaches : List Detach) (boxes : List (List ℕ)) (ds : List Device) (lines : List Line) (h : Held Hosted) (last : ℕ) (ds' : List Device) (mail : Mail)
-    (turn : Turn) (s : StandingFrom begun programs detaches boxes ds lines h last ds' mail Between) (due_next : D.IsLeast h.dues turn.program turn.due) where
-  abbrev i : ℕ
-  i = turn.program
-
-  pub least_is : IsLeast (map due_of s.tellers) i turn.due
-  least_is = subst (λ (l : List (Option ℕ)). IsLeast l i turn.due) s.dues (least_of h.dues i turn.due due_next)
-
-  pub w : (w : Program) × (slice_get programs i ≡ Some w)
-  w = item programs i (omega (arith, slice_get_within (map due_of s.tellers) i (Some turn.due) least_is.there, length-map s.tellers due_of, s.wide))
-
-  abbrev begun_now : ℕ → Held Hosted
-  begun_now next = record { programs = h.programs; dues = h.dues; detaches = h.detaches; shows = h.shows; begun = next; earlier = h.earlier }
-
-  abbrev law : (t : Teller) × (slice_get s.tellers i ≡ Some t) × (t.has_ended ≡ false) × (t.receive ≡ None)
-      × TellsOnFrom begun programs detaches boxes ds s.count i turn.due lines s.tellers (record (amid_of (detached (suc (begun + s.count)) detaches ds') mail None) { settled = [] })
-  law = mail_turn_begins begun programs detaches boxes ds ds' mail s.count last i turn.due lines s.tellers w.0 s.at.0 s.at.1 w.1 least_is
-
-  pub awake_now : (x : Hosted) → slice_get h.programs i ≡ Some x → parked_in x.program ≡ None
-  awake_now x there = awake_held h.shows i w.0 law.0 x (s.each i w.0 law.0 x w.1 law.1 there) law.2 law.3
-
-  pub number_is : (next : ℕ) → next ≡ h.begun + 1 → suc (begun + s.count) ≡ next
-  number_is next is = let b = s.begun_is in omega (arith, b, is)
-
-  pub next_begun : (next : ℕ) → next ≡ h.begun + 1 → begun + suc s.count ≡ next
-  next_begun next is = let b = s.begun_is in omega (arith, b, is)
-
-  pub on_its_turn : (next : ℕ) (own : List Detach) (es : List Device) → next ≡ h.begun + 1 → own ≡ h.detaches → es ≡ detached next own ds'
-      → TellsOnFrom begun programs detaches boxes ds s.count i turn.due lines s.tellers (amid_of es (record mail { settled = [] }) law.0.receive)
-  on_its_turn next own es is own_is out =
-      let number = number_is next is in
-      let out_is : detached (suc (begun + s.count)) detaches ds' ≡ es = (λ k. detached (number k) (sym (own_is ∙ s.detaches_are) k) ds') ∙ sym out in
-      let receive_is = law.3 in
-      subst (λ (m : Amid). TellsOnFrom begun programs detaches boxes ds s.count i turn.due lines s.tellers m)
-      (λ k. amid_of (out_is k) (record mail { settled = [] }) (sym receive_is k)) law.4
-
-  abbrev pub mail_begun_at : (next : ℕ) (own : List Detach) (es : List Device) → next ≡ h.begun + 1 → own ≡ h.detaches → es ≡ detached next own ds'
-      → StandingFrom begun programs detaches boxes ds lines (begun_now next) turn.due es mail (Telling turn)
-  mail_begun_at next own es is own_is out =
-      record {
-        tellers = s.tellers;
-        wide = s.wide;
-        as_many = s.as_many;
-        each = s.each;
-        dues = s.dues ∙ sym (set_same (map due_of s.tellers) i (Some turn.due) least_is.there);
-        detaches_are = s.detaches_are;
-        earlier_is = s.earlier_is;
-        count = suc s.count;
-        begun_is = next_begun next is;
-        at = (s.count, refl, law.0, law.1, [], s.at.1.unsettled, on_its_turn next own es is own_is out, refl, awake_now);
-      }
 
 -- ---- what is shown
 
@@ -205,16 +136,3 @@ module _ (begun : ℕ) (programs : List Program) (detaches : List Detach) (boxes
         takes = subst (λ (v : Event). TakesCall programs (line v) [] cs cs mail mail) (sym e_is)
             (shown_takes programs w.0 turn.due turn.program look.at (bytes_shown (memory_of x) (record { at = look.at; len = look.len })) cs mail w.1);
       }
-
--- ---- the line
-
--- by what is known of the devices
-taken_of : (programs : List Program) (line : Line) (met : List Outcome) (old old' new : List Counted) (mail mail' : Mail) → old ≡ old' → TakesCall programs line met old new mail mail'
-    → TakesCall programs line met old' new mail mail'
-taken_of programs line met old old' new mail mail' is t = subst (λ (l : List Counted). TakesCall programs line met l new mail mail') is t
-
-pub mail_line_from : {begun : ℕ} {programs : List Program} {detaches : List Detach} {boxes : List (List ℕ)} {ds : List Device} {lines : List Line} {tellers : List Teller} {old old' new : List Counted}
-    {mail : Mail} {line : Line} {h : Held Hosted} {last : ℕ} {ds' : List Device} {mail' : Mail} {stage : Stage}
-    → old ≡ old' → TellsLineFrom begun programs detaches boxes ds lines tellers old new mail line h last ds' mail' stage
-    → TellsLineFrom begun programs detaches boxes ds lines tellers old' new mail line h last ds' mail' stage
-mail_line_from is t = record { stands = t.stands; met = t.met; meets = t.meets; takes = taken_of _ _ _ _ _ _ _ _ is t.takes }

@@ -1,6 +1,6 @@
 //! `Turns` of programs with mailboxes: they share a list of devices and mailboxes, and are told line by line.
 
-ghost use Rattle.std.specs.Prelude.{◌≡◌, ◌≤◌, ◌<◌, ◌+◌, ◌^◌, ℕ, All, List, [], IfOk, IsErr, OnOk, length, MatchOption, None, Some};
+ghost use Rattle.std.specs.Prelude.{◌≡◌, ◌≤◌, ◌<◌, ◌+◌, ◌^◌, ℕ, All, List, [], IfOk, IsErr, OnOk, is_some, length, true, MatchOption, None, Some};
 ghost use Rattle.wa_model.specs.Outside.{Line as WorldLine};
 ghost use Rattle.wa_model.specs.View.{event_of, line_of};
 ghost use Rattle.world_model.specs.World.{Device, Program};
@@ -269,7 +269,8 @@ fn wait_where_parked(
     mail: &mut Mailboxes,
 ) -> Result<(), AllocError>
     requires { (name : List ℕ) → option_map (λ name. name.now) parked_at ≡ Some name → CanWait program name mail.old }
-    ensures { OnOk result (mail.new ≡ with_waiting program (option_map (λ name. name.now) parked_at.entry) mail.old) }
+    ensures waits { OnOk result (mail.new ≡ with_waiting program (option_map (λ name. name.now) parked_at.entry) mail.old) }
+    ensures parked { IsErr result → is_some (option_map (λ name. name.now) parked_at.entry) ≡ true }
 {
     let Some(name) = parked_at else {
         return Ok(());

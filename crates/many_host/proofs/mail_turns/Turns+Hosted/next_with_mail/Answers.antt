@@ -5,7 +5,8 @@ use Rattle.many_host.proofs.Counts.{are_left, left_kept}
 use Rattle.many_host.specs.declared.turn_taking.Stage.{Stage}
 use Rattle.many_host.specs.Calls.{BegunBy, BegunNext}
 use Rattle.many_host.specs.Standing.{LooksOut, held_of}
-use Rattle.many_host.proofs.MailStages.{mail_line_from, mail_standing}
+use Rattle.many_host.proofs.MailBegins.{line_from}
+use Rattle.many_host.proofs.MailStages.{mail_standing}
 use Rattle.many_host.proofs.mail_turns.Turns+Hosted.next_with_mail.Goals as goal
 
 pub returns-in-Between-clause-told : goal.returns-in-Between-clause-told
@@ -30,7 +31,7 @@ returns-in-Showing-clause-left g c = λ begun programs detaches boxes ds lines s
 
 pub returns-in_ok-tell_event-in-Telling-clause-told : goal.returns-in_ok-tell_event-in-Telling-clause-told
 returns-in_ok-tell_event-in-Telling-clause-told g c = λ begun programs detaches boxes ds lines s.
-    mail_line_from (left_kept c.args.self.now.begun c.tell_event.new.self.begun detaches _ c.tell_event.ensures.begun)
+    line_from (left_kept c.args.self.now.begun c.tell_event.new.self.begun detaches _ c.tell_event.ensures.begun)
     (c.in_ok-tell_event-in-Telling.ensures.told begun programs detaches boxes ds lines
     (mail_standing begun programs detaches boxes ds lines (held_of c.args.self.now) _ _ _ c.args.self.now.stage _ c.in-Telling.is s))
 

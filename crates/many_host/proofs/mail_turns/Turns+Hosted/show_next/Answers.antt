@@ -8,7 +8,8 @@ use Rattle.event_order.specs.Looks.{looks_of, IsNextShow}
 use Rattle.many_host.specs.Calls.{IsShown}
 use Rattle.many_host.specs.Standing.{held_of}
 use Rattle.many_host.proofs.Counts.{are_left, begun_behind, left_kept}
-use Rattle.many_host.proofs.MailStages.{mail_all_shown, mail_line_from, mail_shown_line}
+use Rattle.many_host.proofs.MailBegins.{line_from}
+use Rattle.many_host.proofs.MailStages.{mail_all_shown, mail_shown_line}
 use Rattle.many_host.proofs.Showing.{looks_left, none_out}
 use Rattle.many_host.proofs.TurnPlaces.{stands_at}
 use Rattle.many_host.proofs.mail_turns.Turns+Hosted.show_next.Goals as goal
@@ -30,7 +31,7 @@ returns-clause-told g c = λ begun programs detaches boxes ds lines s.
     let is = subst (λ (l : List Show). IsNextShow c.args.turn.program l c.args.from c.in-Some.place) c.deref.ensures.value c.in-Some.ensures in
     let there = stands_at c.args.self.now.shows.items c.in-Some.place c.index.result.now (slice_get_within _ _ _ is.there) c.index.ensures in
     let program = stands_at c.args.self.now.programs.items c.args.turn.program c.index-2.result.now c.requires.place c.index-2.ensures in
-    mail_line_from (left_kept c.args.self.now.begun c.args.self.now.begun detaches _ refl)
+    line_from (left_kept c.args.self.now.begun c.args.self.now.begun detaches _ refl)
     (mail_shown_line begun programs detaches boxes ds lines (held_of c.args.self.now) _ _ _ c.args.turn c.args.from s
     c.index-2.result.now c.in-Some.place (c.in-Some.place + 1) c.index.result.now (event_of c.in_ok-event.event) _ program refl is there
     (c.in_ok-event.ensures ∙ ap (shown c.index.result.now.at) c.show-bytes.ensures))
