@@ -47,7 +47,7 @@ decide : (o : Option (List ℕ)) → (o ≡ None) ⊎ ((name : List ℕ) × (o �
 decide None = inl refl
 decide (Some name) = inr (name, refl)
 
-free_at : (xs : List Hosted) (k : ℕ) (y : Hosted) → All (λ (x : Hosted). parked_in x.program ≡ None) xs → slice_get xs k ≡ Some y → parked_in y.program ≡ None
+pub free_at : (xs : List Hosted) (k : ℕ) (y : Hosted) → All (λ (x : Hosted). parked_in x.program ≡ None) xs → slice_get xs k ≡ Some y → parked_in y.program ≡ None
 free_at [] k y all e = cc
 free_at (x ∷ xs) zero y all e = subst (λ (v : Hosted). parked_in v.program ≡ None) (same_Some x y e) (All-head (λ (x : Hosted). parked_in x.program ≡ None) x xs all)
 free_at (x ∷ xs) (suc k) y all e = free_at xs k y (All-tail (λ (x : Hosted). parked_in x.program ≡ None) x xs all) e
@@ -294,14 +294,22 @@ module _ (begun : ℕ) (programs : List Program) (detaches : List Detach) (boxes
               let now : t' ≡ stalled_teller = same_Some t' stalled_teller (sym et' ∙ ap (slice_get stalled_tellers) same ∙ set_here s.tellers i stalled_teller u.0 u.1) in
               ap met_so_far now ∙ ap met_so_far (sym was) ∙ nothing (nat_eq j i) (met_so_far t)
 
-      pub stalled_line : (co cn : List Counted) → cn ≡ co → TellsLineFrom begun programs detaches boxes ds lines s.tellers co cn mail line held_then last es mail (Showing (record { program = i; due = last }) 0)
-      stalled_line co cn same =
+      told_so : (co cn : List Counted) → cn ≡ co → TellsLineFrom begun programs detaches boxes ds lines s.tellers co cn mail line held_then last es mail (Showing (record { program = i; due = last }) 0)
+      told_so co cn same =
           record {
             stands = stalled_stands;
             met = [];
             meets = meets_none;
             takes = record { w = v.0; program = v.1; takes = subst (λ (o : Option Call). MatchOption o (([] ≡ the_none) × (cn ≡ co)) (λ c. CallTakes v.0 c [] co cn mail mail)) (sym (ap call_in e_is)) (refl, same) };
           }
+
+      pub stalled_line : (co co' cn : List Counted) → co ≡ co' → cn ≡ co → (es' : List Device) → es' ≡ es → (mail' : Mail) → mail' ≡ mail
+          → TellsLineFrom begun programs detaches boxes ds lines s.tellers co' cn mail line held_then last es' mail' (Showing (record { program = i; due = last }) 0)
+      stalled_line co co' cn left same es' devices mail' same_mail =
+          subst (λ (c : List Counted). TellsLineFrom begun programs detaches boxes ds lines s.tellers c cn mail line held_then last es' mail' (Showing (record { program = i; due = last }) 0)) left
+          (subst (λ (m : Mail). TellsLineFrom begun programs detaches boxes ds lines s.tellers co cn mail line held_then last es' m (Showing (record { program = i; due = last }) 0)) (sym same_mail)
+          (subst (λ (d : List Device). TellsLineFrom begun programs detaches boxes ds lines s.tellers co cn mail line held_then last d mail (Showing (record { program = i; due = last }) 0)) (sym devices)
+          (told_so co cn same)))
 
 -- a line of devices that are told otherwise
 pub line_from : {begun : ℕ} {programs : List Program} {detaches : List Detach} {boxes : List (List ℕ)} {ds : List Device} {lines : List Line} {tellers : List Teller} {co co' cn : List Counted} {mail : Mail}
