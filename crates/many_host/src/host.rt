@@ -1,6 +1,6 @@
 //! `Host`: several programs on one thread, told line by line.
 
-ghost use Rattle.std.specs.Prelude.{◌≡◌, ◌≤◌, ◌<◌, ◌^◌, ℕ, List, [], All, IfOk, IsErr, MatchOption, Some, is_none, length, map, slice_get};
+ghost use Rattle.std.specs.Prelude.{◌≡◌, ◌≤◌, ◌<◌, ◌^◌, ℕ, List, [], All, IfOk, IsErr, MatchOption, Some, is_some, length, map, slice_get};
 ghost use Rattle.std.specs.Bool.{OnTrue, OnFalse};
 ghost use Rattle.std.specs.Option.{option_map};
 ghost use Rattle.wa_model.specs.Outside.{Line as WorldLine};
@@ -164,7 +164,7 @@ impl<'m> Host<'m> {
         self.turns.events()
     }
 
-    /// The tick at which a program is due; 0 where it has ended.
+    /// The tick at which a program is due; 0 where it has ended, or is parked.
     pub fn due(&self, program: u32) -> u64
         requires { program < length self.now.turns.dues.items }
         ensures { Some result ≡ due_told (slice_get self.now.turns.dues.items program) }
@@ -172,12 +172,12 @@ impl<'m> Host<'m> {
         self.turns.due(program as usize)
     }
 
-    /// Whether a program has ended.
-    pub fn has_ended(&self, program: u32) -> bool
+    /// Whether a program is due: not while it is parked, and never once it has ended.
+    pub fn is_due(&self, program: u32) -> bool
         requires { program < length self.now.turns.dues.items }
-        ensures { Some result ≡ option_map is_none (slice_get self.now.turns.dues.items program) }
+        ensures { Some result ≡ option_map is_some (slice_get self.now.turns.dues.items program) }
     {
-        self.turns.dues()[program as usize].is_none()
+        self.turns.dues()[program as usize].is_some()
     }
 
     /// Whether the next line, where there is one, begins an event.

@@ -16,6 +16,10 @@
 //! A host begins with the first event, or goes on behind others with programs that were put back (`Host::resumed`): what it tells is
 //! then a run of the world behind those events, whose programs begin where they were put back. One that had ended tells nothing.
 //!
+//! Programs may ask mailboxes too (`Host::next`): one that receives at an empty mailbox parks with its next pause, and is due again one tick
+//! behind the turn that sends it a value; where none is due the first that is parked ends there, stalled. Programs without mailboxes go on by
+//! `Host::next_without_mail`.
+//!
 //! The definition of a world gives each program beforehand all the notes that it will make and all the outcomes that its calls will
 //! meet; a host knows only what was told so far. The laws lead from the one to the other, turn by turn (`specs/Turns.antt`) and note by
 //! note (`specs/Notes.antt`): what was told is so many whole turns and the beginning of the next.

@@ -93,14 +93,14 @@ impl<T: Teller + Drop> Turns<T> {
         self.programs.as_slice()
     }
 
-    /// When each is due that hasn't ended.
+    /// When each is due: not once it has ended, nor while it is parked.
     pub fn dues(&self) -> &[Option<u64>]
         ensures { result.now ≡ self.now.dues.items }
     {
         self.dues.as_slice()
     }
 
-    /// When a program is due; 0 where it has ended.
+    /// When a program is due; 0 where it has ended, or is parked.
     pub fn due(&self, program: usize) -> u64
         requires { program < length self.now.dues.items }
         ensures { Some result ≡ due_told (slice_get self.now.dues.items program) }
