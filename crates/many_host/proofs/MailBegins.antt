@@ -1,6 +1,6 @@
 -- The next event of a host with mailboxes begins: a turn, or the end of the first program that waits.
-use Rattle.std.proofs.Common.{arith, ◌≡◌, ◌⊎◌, inl, inr, ◌<◌, ◌≤◌, ◌+◌, ◌++◌, ℕ, zero, suc, List, [], ◌∷◌, All, length, map, Option, Some, None, Bool, true, false, if◌then◌else◌, nat_eq, refl, sym, ap, ◌∙◌, subst, length-set, append-nil, append_assoc}
-use Rattle.std.specs.Prelude.{IsSome, MatchOption, is_some, slice_get, slice_set}
+use Rattle.std.proofs.Common.{arith, ◌≡◌, ◌⊎◌, inl, inr, ◌<◌, ◌+◌, ◌++◌, ℕ, zero, suc, List, [], ◌∷◌, All, length, map, Option, Some, None, Bool, true, false, if◌then◌else◌, nat_eq, refl, sym, ap, ◌∙◌, subst, length-set, append-nil, append_assoc}
+use Rattle.std.specs.Prelude.{MatchOption, is_some, slice_get, slice_set}
 use Rattle.std.specs.Option.{option_map}
 use Rattle.std.proofs.lemmas.Bool.{cases_eq}
 use Rattle.std.proofs.lemmas.List.{length-map, map-set}
@@ -23,7 +23,7 @@ use Rattle.mail_laws.specs.Told.{Await, HasStory, HaveEnded, IsLeast, NoneDue, T
 use Rattle.pause_host.specs.Mailing.{amid_of}
 use Rattle.pause_host.specs.Programs.{parked_in, receive_in}
 use Rattle.many_host.specs.Hosts.{has_ended, memory_of}
-use Rattle.many_host.specs.MailStanding.{CallTakes, Holds, IsFirstParked, MailStands, MeetMore, StandingFrom, StandsAtFrom, TakesCall, TellsLineFrom, common_of, has_stalled, met_so_far, on_its_way}
+use Rattle.many_host.specs.MailStanding.{CallTakes, Holds, IsFirstParked, MailStands, MeetMore, StandingFrom, TellsLineFrom, common_of, has_stalled, met_so_far, on_its_way}
 use Rattle.many_host.specs.MailTurns.{TellsOnFrom}
 use Rattle.many_host.specs.Standing.{Held, looks_at}
 use Rattle.many_host.specs.declared.hosted.Hosted.{Hosted}

@@ -1,5 +1,5 @@
 -- Programs that were sent a value while they waited: they are held as those that have got it.
-use Rattle.std.proofs.Common.{arith, ◌≡◌, ◌⊎◌, inl, inr, ◌<◌, ◌++◌, ℕ, suc, List, [], ◌∷◌, length, map, Option, Some, None, Bool, true, false, refl, sym, ap, ◌∙◌, subst, append-nil, length-set}
+use Rattle.std.proofs.Common.{arith, ◌≡◌, ◌⊎◌, inl, inr, ◌++◌, ℕ, suc, List, [], ◌∷◌, length, map, Option, Some, None, true, false, refl, sym, ap, ◌∙◌, subst, append-nil, length-set}
 use Rattle.std.specs.Prelude.{IsSome, is_some, slice_get, slice_set}
 use Rattle.std.specs.Option.{unwrap_or}
 use Rattle.std.proofs.lemmas.Bool.{cases_eq}
@@ -15,8 +15,7 @@ use Rattle.mailbox_device.specs.declared.mailbox.Settled.{Settled}
 use Rattle.mail_laws.specs.Mailboxes.{mailed}
 use Rattle.mail_laws.specs.MailWorld.{pauses}
 use Rattle.mail_laws.specs.Told.{Await, NotAmong, Teller, due_of, having_got, if_going, no_teller, pending, settle_all, waits_at}
-use Rattle.pause_host.specs.Programs.{Follows, begins_paused, parked_in, receive_in}
-use Rattle.many_host.specs.Hosts.{has_ended}
+use Rattle.pause_host.specs.Programs.{Follows, begins_paused, parked_in}
 use Rattle.many_host.specs.MailStanding.{AreParked, HasGot, HaveGot, Holds, IsHeld, dues_settled, met_so_far, on_its_way}
 use Rattle.many_host.specs.declared.hosted.Hosted.{Hosted}
 use Rattle.many_host.proofs.MailHeld.{WaitsHeld, at_pause_goes, ends_pausing, waits_parked}
@@ -87,19 +86,18 @@ module _ (shows : List Show) (programs : List Program) (due : ℕ) where
   -- another isn't changed
   pub sent_on : (tellers : List Teller) (i : ℕ) (t : Teller) (ss : List Settled) → NotAmong i ss → SentPaused tellers ss → SentPaused (slice_set tellers i t) ss
   sent_on tellers i t [] apart h = tt
-  sent_on tellers i t (s ∷ ss) apart h =
-      (
-        record {
-          t = h.0.t;
-          r = h.0.r;
-          there = set_there tellers i s.program t (λ e. apart.0 (sym e)) ∙ h.0.there;
-          unfinished = h.0.unfinished;
-          receive = h.0.receive;
-          paused = h.0.paused;
-          once = h.0.once;
-        },
-        sent_on tellers i t ss apart.1 h.1,
-      )
+  sent_on tellers i t (s ∷ ss) apart h = (
+    record {
+      t = h.0.t;
+      r = h.0.r;
+      there = set_there tellers i s.program t (λ e. apart.0 (sym e)) ∙ h.0.there;
+      unfinished = h.0.unfinished;
+      receive = h.0.receive;
+      paused = h.0.paused;
+      once = h.0.once;
+    },
+    sent_on tellers i t ss apart.1 h.1,
+  )
 
   waits_is : (t : Teller) (r : Await) → t.has_ended ≡ false → t.receive ≡ Some r → waits_at t ≡ Some r
   waits_is t r e q = λ j. if_going (e j) (q j)

@@ -1,5 +1,5 @@
 -- Programs with mailboxes that are held: which of them are parked.
-use Rattle.std.proofs.Common.{arith, ◌≡◌, ◌<◌, ◌≤◌, ◌+◌, ◌++◌, ℕ, zero, suc, All, take, List, [], ◌∷◌, length, Option, Some, None, Bool, true, false, if◌then◌else◌, refl, sym, ap, ◌∙◌, subst}
+use Rattle.std.proofs.Common.{arith, ◌≡◌, ◌≤◌, ◌+◌, ℕ, zero, suc, All, take, List, [], ◌∷◌, length, Option, Some, None, Bool, true, false, if◌then◌else◌, refl, sym, ap, ◌∙◌, subst}
 use Rattle.std.specs.Prelude.{IsSome, is_some, slice_get}
 use Rattle.std.specs.Option.{option_map}
 use Rattle.std.proofs.lemmas.List.{take_all}
@@ -12,12 +12,12 @@ use Rattle.world_model.specs.World as W
 use Rattle.event_order.specs.declared.shows.Show.{Show}
 use Rattle.mail_laws.specs.MailWorld as M
 use Rattle.mail_laws.specs.MailWorld.{begins_over, pauses}
-use Rattle.mail_laws.specs.Told.{Await, Teller, if_going, starting, waits_at}
+use Rattle.mail_laws.specs.Told.{Await, Teller, if_going, waits_at}
 use Rattle.pause_host.specs.declared.program.Program.{Program}
 use Rattle.pause_host.specs.declared.program.State.{State}
 use Rattle.pause_host.specs.declared.program.State.TheVariants as St
 use Rattle.pause_host.specs.declared.stages.Stage.TheVariants as Sg
-use Rattle.pause_host.specs.Programs.{begins_paused, behind_end, end_at, ends_at, memory_at, ended_as, ends_in_pause, is_at_pause, parked_in, place_of, receive_in}
+use Rattle.pause_host.specs.Programs.{begins_paused, behind_end, end_at, ends_at, memory_at, ends_in_pause, is_at_pause, parked_in, place_of, receive_in}
 use Rattle.pause_host.specs.Views.{is_pause}
 use Rattle.many_host.specs.Hosts.{has_ended}
 use Rattle.many_host.specs.MailStanding.{Holds, IsFirstParked, IsHeld, has_gone, has_stalled, on_its_way}

@@ -1,20 +1,18 @@
 -- A program with mailboxes that is held, with one note more.
-use Rattle.std.proofs.Common.{arith, ◌≡◌, ◌<◌, ◌≤◌, ◌+◌, ◌++◌, ◌||◌, ℕ, suc, List, [], ◌∷◌, length, Option, Some, None, Bool, true, false, refl, sym, ap, ◌∙◌, subst}
+use Rattle.std.proofs.Common.{arith, ◌≡◌, ◌+◌, ◌++◌, ℕ, List, [], ◌∷◌, length, Option, Some, None, false, refl, sym, ap, ◌∙◌, subst}
 use Rattle.std.specs.Prelude.{is_some}
 use Rattle.std.proofs.lemmas.List.{length-append}
 use Rattle.wa_model.specs.declared.events.End.{End}
 use Rattle.wa_model.specs.Outside.{AnswerLine, Call, Event, called, answered, paused, parked, returned, ended, shown}
 use Rattle.wa_model.specs.Plan.{Outcome}
 use Rattle.wa_model.specs.Blocking.{Note}
-use Rattle.wa_model.specs.View.{event_of}
 use Rattle.world_model.specs.World.{Program, call_in, is_end}
 use Rattle.world_laws.specs.Originals.{new_calls, one_if}
 use Rattle.event_order.specs.declared.shows.Show.{Show}
 use Rattle.mail_laws.specs.MailWorld.{store_behind}
-use Rattle.mail_laws.specs.Told.{Await, Teller, ends_program, having_told}
+use Rattle.mail_laws.specs.Told.{Await, Teller, having_told}
 use Rattle.pause_host.specs.Mailing.{MailSupply, TakesMail}
 use Rattle.pause_host.specs.Programs.{Follows, StopsBehindReceive, TellsNext, end_in, ended_as, lines_left, receive_in}
-use Rattle.pause_host.specs.declared.program.Program.{Program as ProgramValue}
 use Rattle.many_host.specs.Hosts.{has_ended}
 use Rattle.many_host.specs.MailStanding.{IsHeld, met_so_far}
 use Rattle.many_host.specs.declared.hosted.Hosted.{Hosted}

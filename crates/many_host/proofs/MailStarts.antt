@@ -1,5 +1,5 @@
 -- A host with mailboxes before its first line.
-use Rattle.std.proofs.Common.{arith, ◌≡◌, ◌<◌, ℕ, List, [], ◌∷◌, map, length, All, Option, Some, None, Bool, true, false, slice_get, refl, sym, ap, ◌∙◌, subst}
+use Rattle.std.proofs.Common.{arith, ◌≡◌, ℕ, List, [], ◌∷◌, map, Some, None, Bool, true, false, slice_get, refl, sym, ap, ◌∙◌, subst}
 use Rattle.std.specs.Option.{option_map}
 use Rattle.std.proofs.lemmas.List.{length-map}
 use Rattle.std.proofs.lemmas.Option.{slice_get-map, same_Some}
@@ -7,11 +7,9 @@ use Rattle.world_model.specs.World.{Device, due_from}
 use Rattle.world_model.specs.World as W
 use Rattle.world_laws.proofs.Places.{all_at}
 use Rattle.event_order.specs.declared.shows.Show.{Show}
-use Rattle.mailbox_device.specs.Mail.{Mail, empty_mail}
+use Rattle.mailbox_device.specs.Mail.{empty_mail}
 use Rattle.mail_laws.specs.MailWorld.{begins_over}
 use Rattle.mail_laws.specs.Told.{Teller, due_of, if_going, starting}
-use Rattle.wa_model.specs.declared.answers.Detach.{Detach}
-use Rattle.wa_model.specs.Outside.{Line}
 use Rattle.pause_host.specs.declared.program.Program.{Program}
 use Rattle.pause_host.specs.Programs.{receive_in}
 use Rattle.many_host.specs.Hosts.{follows, has_ended}

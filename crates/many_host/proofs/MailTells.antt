@@ -1,25 +1,23 @@
 -- The program of a turn with mailboxes tells one note more.
-use Rattle.std.proofs.Common.{arith, ◌≡◌, ◌⊎◌, inl, inr, ◌<◌, ◌+◌, ◌++◌, ℕ, suc, List, [], ◌∷◌, length, map, Option, Some, None, Bool, true, false, refl, sym, ap, ◌∙◌, subst, length-set, append-nil}
+use Rattle.std.proofs.Common.{arith, ◌≡◌, ◌⊎◌, inl, inr, ℕ, suc, List, [], ◌∷◌, Option, Some, None, true, false, refl, sym, ap, ◌∙◌, subst, length-set}
 use Rattle.std.specs.Prelude.{slice_get, slice_set}
 use Rattle.std.proofs.lemmas.Bool.{cases_eq}
 use Rattle.std.proofs.lemmas.Option.{same_Some}
 use Rattle.wa_model.specs.declared.answers.Detach.{Detach}
-use Rattle.wa_model.specs.Outside.{AnswerLine, Event, Line, parked}
-use Rattle.wa_model.specs.Plan.{Outcome}
+use Rattle.wa_model.specs.Outside.{Event, Line, parked}
 use Rattle.wa_model.specs.Blocking.{Note, no_store, note}
 use Rattle.wa_model.specs.View.{event_of}
-use Rattle.world_model.specs.World.{Device, Program, call_in, ends_turn, line_at}
-use Rattle.world_laws.proofs.Places.{item, set_here, set_there}
+use Rattle.world_model.specs.World.{Device, Program, call_in, ends_turn}
+use Rattle.world_laws.proofs.Places.{set_here, set_there}
 use Rattle.event_order.specs.declared.shows.Show.{Show}
 use Rattle.event_order.specs.declared.turns.Turn.{Turn}
 use Rattle.mailbox_device.specs.declared.mailbox.Settled.{Settled}
 use Rattle.mailbox_device.specs.Mail.{Mail}
-use Rattle.mail_laws.specs.MailWorld.{told_pause}
-use Rattle.mail_laws.specs.Told.{Amid, AreSent, Await, NotAmong, Teller, due_of, having_told, settle_all, starting}
+use Rattle.mail_laws.specs.Told.{AreSent, Await, Teller, having_told}
 use Rattle.pause_host.specs.Mailing.{MailSupply, amid_of}
-use Rattle.pause_host.specs.Programs.{Follows, StopsBehindReceive, TellsNext, ended_as, lines_left, parked_in, receive_in}
+use Rattle.pause_host.specs.Programs.{StopsBehindReceive, TellsNext, ended_as, lines_left, parked_in, receive_in}
 use Rattle.pause_host.proofs.Stopping.{no_call_parked}
-use Rattle.many_host.specs.MailStanding.{AreParked, HaveGot, Holds, IsHeld, StandingFrom, dues_settled, has_gone, has_stalled, met_so_far, on_its_way}
+use Rattle.many_host.specs.MailStanding.{AreParked, Holds, IsHeld, StandingFrom, has_gone, has_stalled, met_so_far, on_its_way}
 use Rattle.many_host.specs.MailTurns.{TellsOnFrom}
 use Rattle.many_host.specs.ToldMail.{AllPaused, GoesOnBy, with_note}
 use Rattle.many_host.specs.Standing.{Held}
@@ -50,19 +48,18 @@ module _ (shows : List Show) (programs : List Program) (due : ℕ) (tellers : Li
 -- those that are sent a value told their pauses
 pub sent_paused : (shows : List Show) (programs : List Program) (due : ℕ) (tellers : List Teller) (ss : List Settled) → AreSent tellers ss → AllPaused tellers ss → SentPaused shows programs due tellers ss
 sent_paused shows programs due tellers [] sent paused = tt
-sent_paused shows programs due tellers (s ∷ ss) sent paused =
-    (
-      record {
-        t = sent.0.t;
-        r = sent.0.r;
-        there = sent.0.there;
-        unfinished = sent.0.unfinished;
-        receive = sent.0.waits;
-        paused = paused.0 sent.0.t sent.0.there;
-        once = sent.2;
-      },
-      sent_paused shows programs due tellers ss sent.3 paused.1,
-    )
+sent_paused shows programs due tellers (s ∷ ss) sent paused = (
+  record {
+    t = sent.0.t;
+    r = sent.0.r;
+    there = sent.0.there;
+    unfinished = sent.0.unfinished;
+    receive = sent.0.waits;
+    paused = paused.0 sent.0.t sent.0.there;
+    once = sent.2;
+  },
+  sent_paused shows programs due tellers ss sent.3 paused.1,
+)
 
 -- ---- a turn on its way
 

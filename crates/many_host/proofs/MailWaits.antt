@@ -1,9 +1,9 @@
 -- A program that is parked waits at its mailbox.
-use Rattle.std.proofs.Common.{◌≡◌, ℕ, List, Option, Some, None, sym, ap, ◌∙◌}
+use Rattle.std.proofs.Common.{◌≡◌, ℕ, List, Some, None, sym, ap, ◌∙◌}
 use Rattle.std.specs.Prelude.{slice_get}
 use Rattle.std.specs.List.{position}
 use Rattle.std.specs.Option.{option_and_then}
-use Rattle.mailbox_device.specs.Mail.{Awaits, Box, IsEmptyAt, Mail, awaited, is_box}
+use Rattle.mailbox_device.specs.Mail.{Awaits, IsEmptyAt, Mail, awaited, is_box}
 use Rattle.mailbox_device.proofs.Named.{changed, found}
 use Rattle.many_host.specs.MailStanding.{CanWait, with_waiting}
 

@@ -92,7 +92,10 @@ impl<'m> Host<'m> {
     /// The next line, with the tick at which its event began; None exactly where all programs have ended and all shows are out, and the
     /// host is then as it was. A new call of a bound import asks its device once, and a device's fault is told only where that device's
     /// count rose. After want of memory it isn't called again.
-    pub fn next_without_mail(&mut self, devices: &mut Devices<'_>) -> Result<Option<Line>, AllocError>
+    pub fn next_without_mail(
+        &mut self,
+        devices: &mut Devices<'_>,
+    ) -> Result<Option<Line>, AllocError>
         requires lent { IsLent }
         requires range { InRange self.old.turns }
         requires tells { IsTelling follows has_ended memory_of (held_of self.old.turns) (of_all seen devices.old) self.old.turns.stage }

@@ -1,17 +1,13 @@
-use Rattle.std.proofs.Common.{arith, ◌≡◌, ◌+◌, All, List, None, Some, ap, inr, length-set, refl, slice_get, sym, ◌∙◌, subst}
+use Rattle.std.proofs.Common.{arith, ◌≡◌, ◌+◌, All, List, None, ap, inr, length-set, refl, sym, ◌∙◌, subst}
 use Rattle.std.specs.Prelude.{IsSome, is_some}
 use Rattle.std.proofs.lemmas.Option.{same_Some, slice_get_within}
 use Rattle.wa_model.specs.View.{event_of}
-use Rattle.world_model.specs.World.{line_at}
 use Rattle.device_port.specs.Listed.{of_all}
-use Rattle.mailbox_device.specs.Mail.{Mail}
 use Rattle.pause_host.specs.Programs.{parked_in, receive_in}
 use Rattle.many_host.specs.Hosts.{memory_of}
-use Rattle.many_host.specs.Calls.{left_at}
-use Rattle.many_host.specs.MailStanding.{IsFirstParked, TellsLineFrom}
+use Rattle.many_host.specs.MailStanding.{IsFirstParked}
 use Rattle.many_host.specs.Standing.{held_of, latest}
 use Rattle.many_host.specs.declared.hosted.Hosted.{Hosted}
-use Rattle.many_host.specs.declared.turn_taking.Stage.TheVariants.{Showing}
 use Rattle.many_host.proofs.DueTicks.{dues_later}
 use Rattle.many_host.proofs.Counts.{are_left, left_began, left_when_begun}
 use Rattle.many_host.proofs.MailBegins.{all_ended, free_at, r, receive_now, stalled_line}
