@@ -33,10 +33,10 @@ use Rattle.world_hosting.specs.Views.{IsPlanned, Suits, listing}
 use Rattle.script_setup.proofs.Bound.{bound_each}
 
 -- what is made by the rules suits
-pub suits_by_rules : (runs : Bool) (p : Module) (t : ProgramText) (made : SetUpValue) → set_up_rules runs p t ≡ Ok (set_up_of made)
+pub suits_by_rules : (runs : Bool) (boxes : List (List ℕ)) (p : Module) (t : ProgramText) (made : SetUpValue) → set_up_rules runs boxes p t ≡ Ok (set_up_of made)
     → map named_entry_of made.entries.items ≡ map named_entry t.entries → Suits p t made
-suits_by_rules runs p t made e entries =
-    let given = given_by_rules runs p t (set_up_of made) e in
+suits_by_rules runs boxes p t made e entries =
+    let given = given_by_rules runs boxes p t (set_up_of made) e in
     record { entries = entries; funcs = given.funcs; globals = given.globals }
 
 -- the one fault of a plan that has none
