@@ -111,13 +111,13 @@ module _ (x : Source) (y : Part) (is : IsRewritten x y) where
 
 -- ---- all of them
 
-all_stand_in : (xs : List Source) (ys : List Part) → AllZip IsRewritten xs ys → AllZip StandsIn (originals_for xs ys) (world_programs ys)
+pub all_stand_in : (xs : List Source) (ys : List Part) → AllZip IsRewritten xs ys → AllZip StandsIn (originals_for xs ys) (world_programs ys)
 all_stand_in [] [] h = tt
 all_stand_in [] (y ∷ ys) h = absurd h
 all_stand_in (x ∷ xs) [] h = absurd h
 all_stand_in (x ∷ xs) (y ∷ ys) h = (stands_in x y h.0, all_stand_in xs ys h.1)
 
-all_may_run : (xs : List Source) (ys : List Part) → AllZip IsRewritten xs ys → All MayRun (originals_for xs ys)
+pub all_may_run : (xs : List Source) (ys : List Part) → AllZip IsRewritten xs ys → All MayRun (originals_for xs ys)
 all_may_run [] ys h = All-nil MayRun
 all_may_run (x ∷ xs) [] h = absurd h
 all_may_run (x ∷ xs) (y ∷ ys) h = All-cons MayRun (original_for x y) (originals_for xs ys) (may_run x y h.0) (all_may_run xs ys h.1)
