@@ -14,6 +14,7 @@ pub mod MailFew
 pub mod MailKept
 pub mod MailNotes
 pub mod MailSettled
+pub mod MailShowing
 pub mod MailStories
 pub mod MailSums
 pub mod MailWorlds

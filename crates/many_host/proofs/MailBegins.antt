@@ -23,7 +23,7 @@ use Rattle.mail_laws.specs.Told.{Await, HasStory, HaveEnded, IsLeast, NoneDue, T
 use Rattle.pause_host.specs.Mailing.{amid_of}
 use Rattle.pause_host.specs.Programs.{parked_in, receive_in}
 use Rattle.many_host.specs.Hosts.{has_ended, memory_of}
-use Rattle.many_host.specs.MailStanding.{CallTakes, Holds, IsFirstParked, MailStands, MeetMore, StandingFrom, StandsAtFrom, TakesCall, TellsLineFrom, common_of, has_stalled, met_so_far, on_its_way}
+use Rattle.many_host.specs.MailStanding.{CallTakes, Holds, IsFirstParked, MailStands, MeetMore, StandingFrom, StandsAtFrom, TakesCall, TellsLineFrom, common_of, dues_at, has_stalled, met_so_far, on_its_way}
 use Rattle.many_host.specs.MailTurns.{TellsOnFrom}
 use Rattle.many_host.specs.Standing.{Held, looks_at}
 use Rattle.many_host.specs.declared.hosted.Hosted.{Hosted}
@@ -317,3 +317,20 @@ pub line_from : {begun : ℕ} {programs : List Program} {detaches : List Detach}
     → TellsLineFrom begun programs detaches boxes ds lines tellers co cn mail line h last ds' mail' stage → TellsLineFrom begun programs detaches boxes ds lines tellers co' cn mail line h last ds' mail' stage
 line_from {begun} {programs} {detaches} {boxes} {ds} {lines} {tellers} {co} {co'} {cn} {mail} {line} {h} {last} {ds'} {mail'} {stage} is t =
     subst (λ (c : List Counted). TellsLineFrom begun programs detaches boxes ds lines tellers c cn mail line h last ds' mail' stage) is t
+
+-- where it is known to stand
+abbrev pub standing : (begun : ℕ) (programs : List Program) (detaches : List Detach) (boxes : List (List ℕ)) (ds : List Device) (lines : List Line) (h : Held Hosted) (last : ℕ) (ds' : List Device)
+    (mail : Mail) (stage stage' : Stage) → stage ≡ stage' → StandingFrom begun programs detaches boxes ds lines h last ds' mail stage → StandingFrom begun programs detaches boxes ds lines h last ds' mail stage'
+standing begun programs detaches boxes ds lines h last ds' mail stage stage' is s =
+    record {
+      tellers = s.tellers;
+      wide = s.wide;
+      as_many = s.as_many;
+      each = s.each;
+      dues = s.dues ∙ ap (dues_at s.tellers) is;
+      detaches_are = s.detaches_are;
+      earlier_is = s.earlier_is;
+      count = s.count;
+      begun_is = s.begun_is;
+      at = subst (λ (g : Stage). StandsAtFrom begun programs detaches boxes ds s.count lines s.tellers h last ds' mail g) is s.at;
+    }
