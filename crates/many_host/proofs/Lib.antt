@@ -11,6 +11,7 @@ pub mod KeptTables
 pub mod MailBegins
 pub mod MailBoxes
 pub mod MailFew
+pub mod MailHostNext
 pub mod MailKept
 pub mod MailNotes
 pub mod MailSettled

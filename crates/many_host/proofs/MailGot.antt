@@ -87,19 +87,18 @@ module _ (shows : List Show) (programs : List Program) (due : ℕ) where
   -- another isn't changed
   pub sent_on : (tellers : List Teller) (i : ℕ) (t : Teller) (ss : List Settled) → NotAmong i ss → SentPaused tellers ss → SentPaused (slice_set tellers i t) ss
   sent_on tellers i t [] apart h = tt
-  sent_on tellers i t (s ∷ ss) apart h =
-      (
-        record {
-          t = h.0.t;
-          r = h.0.r;
-          there = set_there tellers i s.program t (λ e. apart.0 (sym e)) ∙ h.0.there;
-          unfinished = h.0.unfinished;
-          receive = h.0.receive;
-          paused = h.0.paused;
-          once = h.0.once;
-        },
-        sent_on tellers i t ss apart.1 h.1,
-      )
+  sent_on tellers i t (s ∷ ss) apart h = (
+    record {
+      t = h.0.t;
+      r = h.0.r;
+      there = set_there tellers i s.program t (λ e. apart.0 (sym e)) ∙ h.0.there;
+      unfinished = h.0.unfinished;
+      receive = h.0.receive;
+      paused = h.0.paused;
+      once = h.0.once;
+    },
+    sent_on tellers i t ss apart.1 h.1,
+  )
 
   waits_is : (t : Teller) (r : Await) → t.has_ended ≡ false → t.receive ≡ Some r → waits_at t ≡ Some r
   waits_is t r e q = λ j. if_going (e j) (q j)

@@ -181,10 +181,10 @@ module _ (begun : ℕ) (programs : List Program) (detaches : List Detach) (boxes
               s.at.4 ++ ss,
               refl,
               subst (λ (v : Event). TellsOnFrom begun programs detaches boxes ds s.at.0 i turn.due (lines ++ line_at turn.due i v ∷ []) behind
-              (amid_of ds'' (record mail' { settled = s.at.4 ++ ss }) (receive_in x'.program))) e_is goes.on,
+                  (amid_of ds'' (record mail' { settled = s.at.4 ++ ss }) (receive_in x'.program))) e_is goes.on,
               s.at.7,
               λ y at. let same : x' ≡ y = same_Some x' y (sym (got_past ss advanced xs i goes.apart got ∙ set_here h.programs i x' x there) ∙ at) in
-              ap (λ (z : Hosted). parked_in z.program) (sym same) ∙ idle,
+                  ap (λ (z : Hosted). parked_in z.program) (sym same) ∙ idle,
             );
           }
 
@@ -289,10 +289,9 @@ module _ (begun : ℕ) (programs : List Program) (detaches : List Detach) (boxes
         ended_at v is o p m m_is =
             let whole : mail_behind i parking (amid_of ds' (record mail { settled = s.at.4 }) t.receive) ≡ m = (λ j. record { boxes = parked_boxes i (p j) mail.boxes; settled = [] }) ∙ sym m_is in
             let common : common_of ds' (mail_behind i parking (amid_of ds' (record mail { settled = s.at.4 }) t.receive)) turn.due ≡ common_of ds'' m last =
-            λ j. common_of (sym ds_is j) (whole j) (sym s.at.7 j) in
-            (
+            λ j. common_of (sym ds_is j) (whole j) (sym s.at.7 j) in (
               subst (λ (c : Common). Tells begun programs detaches boxes ds s.count
-              (lines ++ line_at turn.due i (told_pause o v) ∷ map (line_at turn.due i) (looks_after w.looks x_note v)) ended_tellers c) common
+                  (lines ++ line_at turn.due i (told_pause o v) ∷ map (line_at turn.due i) (looks_after w.looks x_note v)) ended_tellers c) common
                   (subst (λ (k : ℕ). Tells begun programs detaches boxes ds k
                   (lines ++ line_at turn.due i (told_pause o v) ∷ map (line_at turn.due i) (looks_after w.looks x_note v)) ended_tellers
                   (common_of ds' (mail_behind i parking (amid_of ds' (record mail { settled = s.at.4 }) t.receive)) turn.due)) (sym s.at.1)
@@ -308,8 +307,7 @@ module _ (begun : ℕ) (programs : List Program) (detaches : List Detach) (boxes
         at_pause ticks used is o r m m_is =
             let parks_is : parking ≡ o = ap (λ (v : Event). if is_pause_told v then t.receive else None) is ∙ r in
             let e_is : told_pause o (paused ticks used) ≡ e = (λ j. told_pause (sym (receive_is ∙ r) j) (sym is j)) ∙ sym said in
-            let at = ended_at (paused ticks used) is o parks_is m m_is in
-            (
+            let at = ended_at (paused ticks used) is o parks_is m m_is in (
               subst (λ (v : Event). Tells begun programs detaches boxes ds s.count (lines ++ line_at turn.due i v ∷ []) ended_tellers (common_of ds'' m last)) e_is at.0,
               at.1,
             )
@@ -325,8 +323,7 @@ module _ (begun : ℕ) (programs : List Program) (detaches : List Detach) (boxes
             let lines_are : lines ++ line_at turn.due i (ended how) ∷ map (line_at turn.due i) (looks_after w.looks x_note (ended how))
             ≡ (lines ++ line ∷ []) ++ map (line_at turn.due i) (looks_at (memory_of x') (looks_of i h.shows)) =
             (λ j. lines ++ line_at turn.due i (e_is j) ∷ map (line_at turn.due i) (looks_at (sym n.advances.memory_is j) (looks j)))
-            ∙ sym (append_assoc lines (line ∷ []) (map (line_at turn.due i) (looks_at (memory_of x') (looks_of i h.shows)))) in
-            (
+            ∙ sym (append_assoc lines (line ∷ []) (map (line_at turn.due i) (looks_at (memory_of x') (looks_of i h.shows)))) in (
               x',
               ap (λ (l : List Hosted). slice_get l i) (advanced_is xs got) ∙ set_here h.programs i x' x there,
               subst (λ (ls : List Line). Tells begun programs detaches boxes ds s.count ls ended_tellers (common_of ds'' m last)) lines_are at.0,
@@ -517,8 +514,11 @@ module _ (begun : ℕ) (programs : List Program) (detaches : List Detach) (boxes
             sent = mail'.settled;
             outcome = h.0;
             met_is = h.1;
-            takes = subst (λ (z : MailSupply). MailAnswers w c z h.0 (record { lines = lines_left x'.program;
-                amid = amid_of (devices_of cn) (record mail_now { settled = mail'.settled }) (receive_in x'.program); faults = faults_of cn })) old_is
+            takes = subst (λ (z : MailSupply). MailAnswers w c z h.0 (record {
+              lines = lines_left x'.program;
+              amid = amid_of (devices_of cn) (record mail_now { settled = mail'.settled }) (receive_in x'.program);
+              faults = faults_of cn;
+            })) old_is
                 (subst (MailAnswers w c old h.0) new_is h.2);
           }
 

@@ -50,8 +50,11 @@ module _ (begun : ℕ) (programs : List Program) (detaches : List Detach) (boxes
         earlier_is = s.earlier_is;
         count = s.count;
         begun_is = s.begun_is;
-        at = (subst (λ (ls : List Line). Tells begun programs detaches boxes ds s.count ls s.tellers (common_of ds' mail last))
-            (ap (λ (l : List Look). lines ++ map line (looks_at (memory_of s.at.0) l)) none ∙ append-nil lines) s.at.2, s.at.3);
+        at = (
+          subst (λ (ls : List Line). Tells begun programs detaches boxes ds s.count ls s.tellers (common_of ds' mail last))
+              (ap (λ (l : List Look). lines ++ map line (looks_at (memory_of s.at.0) l)) none ∙ append-nil lines) s.at.2,
+          s.at.3,
+        );
       }
 
   shown_takes : (x : Hosted) (e : Event) (cs : List Counted) (at : ℕ) (bytes : Option (List ℕ)) → e ≡ shown at bytes → slice_get h.programs turn.program ≡ Some x

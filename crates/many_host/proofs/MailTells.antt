@@ -50,19 +50,18 @@ module _ (shows : List Show) (programs : List Program) (due : ℕ) (tellers : Li
 -- those that are sent a value told their pauses
 pub sent_paused : (shows : List Show) (programs : List Program) (due : ℕ) (tellers : List Teller) (ss : List Settled) → AreSent tellers ss → AllPaused tellers ss → SentPaused shows programs due tellers ss
 sent_paused shows programs due tellers [] sent paused = tt
-sent_paused shows programs due tellers (s ∷ ss) sent paused =
-    (
-      record {
-        t = sent.0.t;
-        r = sent.0.r;
-        there = sent.0.there;
-        unfinished = sent.0.unfinished;
-        receive = sent.0.waits;
-        paused = paused.0 sent.0.t sent.0.there;
-        once = sent.2;
-      },
-      sent_paused shows programs due tellers ss sent.3 paused.1,
-    )
+sent_paused shows programs due tellers (s ∷ ss) sent paused = (
+  record {
+    t = sent.0.t;
+    r = sent.0.r;
+    there = sent.0.there;
+    unfinished = sent.0.unfinished;
+    receive = sent.0.waits;
+    paused = paused.0 sent.0.t sent.0.there;
+    once = sent.2;
+  },
+  sent_paused shows programs due tellers ss sent.3 paused.1,
+)
 
 -- ---- a turn on its way
 

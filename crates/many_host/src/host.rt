@@ -15,12 +15,15 @@ ghost use Rattle.many_host.specs.Standing.{InRange, IsTelling, LooksOut, due_tol
 ghost use Rattle.many_host.specs.Hosts.{AreResumed, AreSetUp, HostNext, HostNextFrom, HostTold, HostToldFrom, dues_left, follows, has_ended, memory_of};
 ghost use Rattle.many_host.specs.Saving.{CanBeSaved, IsSaved, saved_of};
 ghost use Rattle.many_host.specs.Turns.{unless};
+ghost use Rattle.many_host.specs.MailHosts.{HostTellsFrom, HostTellsNext};
+ghost use Rattle.many_host.specs.MailStanding.{AllOver, IsTelling as TellsWithMail};
 
 use crate::hosted::Hosted;
 use crate::saving::saved_records;
 use crate::turn_taking::{Turns, first_dues};
 use device_port::Devices;
 use event_order::Show;
+use mailbox_device::Mailboxes;
 use pause_host::Program;
 use snapshot_store::Snapshot;
 use std::alloc::{AllocError, Global};
@@ -84,7 +87,10 @@ impl<'m> Host<'m> {
     /// The next line, with the tick at which its event began; None exactly where all programs have ended and all shows are out, and the
     /// host is then as it was. A new call of a bound import asks its device once, and a device's fault is told only where that device's
     /// count rose. After want of memory it isn't called again.
-    pub fn next_without_mail(&mut self, devices: &mut Devices<'_>) -> Result<Option<Line>, AllocError>
+    pub fn next_without_mail(
+        &mut self,
+        devices: &mut Devices<'_>,
+    ) -> Result<Option<Line>, AllocError>
         requires lent { IsLent }
         requires range { InRange self.old.turns }
         requires tells { IsTelling follows has_ended memory_of (held_of self.old.turns) (of_all seen devices.old) self.old.turns.stage }
@@ -115,6 +121,38 @@ impl<'m> Host<'m> {
         ensures same { IfOk result (λ line. MatchOption line (self.new ≡ self.old) (λ l. Unit {0})) }
     {
         self.turns.next(devices)
+    }
+
+    /// The next line, with the tick at which its event began; None exactly where all programs have ended and all shows are out, and host
+    /// and mailboxes are then as they were. A new call of an import that is bound to a name asks the mailbox of that name, where there is
+    /// one, else its device, once. A program that receives at an empty mailbox waits there until another sends; where none is left that
+    /// could, it ends as stalled. After want of memory it isn't called again.
+    pub fn next(
+        &mut self,
+        devices: &mut Devices<'_>,
+        mail: &mut Mailboxes,
+    ) -> Result<Option<Line>, AllocError>
+        requires lent { IsLent }
+        requires range { InRange self.old.turns }
+        requires tells { TellsWithMail (held_of self.old.turns) self.old.turns.last (of_all seen devices.old) mail.old self.old.turns.stage }
+        ensures range { IfOk result (λ line. InRange self.new.turns) }
+        ensures same_list { devices.new.list.ghost_name ≡ devices.old.list.ghost_name }
+        ensures told { (begun : ℕ) (programs : List WorldProgram) (detaches : List Detach) (boxes : List (List ℕ)) (ds : List Device) (lines : List WorldLine)
+            (told : HostTellsFrom begun programs detaches boxes ds lines self.old (of_all seen devices.old) mail.old)
+            → IfOk result (HostTellsNext begun programs detaches boxes ds lines told.tellers (of_all (λ d. record { device = seen d; faults = faults d }) devices.old)
+            (left_at self.old.turns.begun self.new.turns.begun detaches (of_all (λ d. record { device = seen d; faults = faults d }) devices.old))
+            (of_all (λ d. record { device = seen d; faults = faults d }) devices.new) mail.old self.new (of_all seen devices.new) mail.new) }
+        ensures left { (begun : ℕ) (programs : List WorldProgram) (detaches : List Detach) (boxes : List (List ℕ)) (ds : List Device) (lines : List WorldLine)
+            → HostTellsFrom begun programs detaches boxes ds lines self.old (of_all seen devices.old) mail.old
+            → IsErr result → AreLeft self.old.turns.begun detaches (of_all (λ d. record { device = seen d; faults = faults d }) devices.old)
+            (of_all (λ d. record { device = seen d; faults = faults d }) devices.new) }
+        ensures none { IfOk result (λ line. MatchOption line (AllOver self.old.turns × LooksOut self.old.turns.shows.items self.old.turns.stage)
+            (λ l. AllOver self.old.turns → LooksOut self.old.turns.shows.items self.old.turns.stage → ⊥)) }
+        ensures begun { IfOk result (λ line. BegunNext self.old.turns.stage self.old.turns.begun self.new.turns.begun line) }
+        ensures goes_on { (LooksOut self.old.turns.shows.items self.old.turns.stage → ⊥) → self.new.turns.begun ≡ self.old.turns.begun }
+        ensures same { IfOk result (λ line. MatchOption line ((self.new ≡ self.old) × (mail.new ≡ mail.old)) (λ l. Unit {0})) }
+    {
+        self.turns.next_with_mail(devices, mail)
     }
 
     /// How many events have begun.

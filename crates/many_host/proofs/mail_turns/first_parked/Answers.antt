@@ -2,8 +2,6 @@ use Rattle.std.proofs.Common.{arith, ◌≡◌, ◌∙◌, ap, false, subst, sym
 use Rattle.std.specs.Prelude.{IsSome, is_some}
 use Rattle.pause_host.specs.Programs.{parked_in}
 use Rattle.many_host.specs.declared.hosted.Hosted.{Hosted}
-use Rattle.many_host.proofs.MailGot.{all_got}
-use Rattle.many_host.proofs.MailBegins.{begun_at}
 use Rattle.many_host.proofs.MailHeld.{first_is, free_all, free_on, some_mapped}
 use Rattle.many_host.proofs.TurnPlaces.{stands_at}
 use Rattle.many_host.proofs.mail_turns.first_parked.Goals as goal

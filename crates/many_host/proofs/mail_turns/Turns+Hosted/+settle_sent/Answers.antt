@@ -17,8 +17,7 @@ returns-clause-got t c =
     let x = c.index_mut.result.now in
     let there = stands_at xs c.in-Some.program x within c.index_mut.ensures.value in
     let same = same_Some parked.0 x (sym parked.1 ∙ there) in
-    subst (λ (ss : List Settled). HaveGot ss xs c.settle_sent.new.self.programs.items) (sym c.in-Some.ensures.first)
-    (
+    subst (λ (ss : List Settled). HaveGot ss xs c.settle_sent.new.self.programs.items) (sym c.in-Some.ensures.first) (
       x,
       record { program = c.settle.new.self },
       there,
