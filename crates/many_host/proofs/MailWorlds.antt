@@ -12,7 +12,7 @@ use Rattle.event_order.specs.Left.{Counted}
 use Rattle.mailbox_device.specs.Mail.{Mail}
 use Rattle.mail_laws.specs.MailWorld.{ProtocolWorldFrom}
 use Rattle.mail_laws.specs.Told.{HasStory, HaveEnded, HaveMet, Teller}
-use Rattle.mail_laws.proofs.PlayedAreTold.{told_goes_on}
+use Rattle.mail_laws.proofs.GoneOn.{told_goes_on}
 use Rattle.mail_laws.proofs.ToldAreWorlds.{all_told_is_world}
 use Rattle.many_host.specs.MailHosts.{HostTellsNext}
 use Rattle.many_host.specs.MailStanding.{AllTold, StandingFrom, TellsNext, common_of}
