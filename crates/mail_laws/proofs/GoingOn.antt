@@ -24,9 +24,11 @@ use Rattle.mail_laws.specs.Played.{EachWorldEnds}
 use Rattle.mail_laws.specs.Told.{Await, Common, Teller, pending, waits_at, due_of, unless_waiting, IsLeast, IsRest, NoneDue, EndsOnce, ends_program, having_told, having_got, no_teller, settle_all, NotAmong}
 use Rattle.mail_laws.specs.Told.{IsWaiting, AreSent, waiting_in, parked_in, begun_amid, TellsTurn, TellsStall, TellsEvent, tells_turn, tells_stall, starting as teller_at, opening as told_opening}
 use Rattle.mail_laws.specs.Told.{Tells, HasStory, HaveEnded, if_going}
+use Rattle.mail_laws.proofs.Grown.{Grown, event_grows, grown_on, grown_same, settle_out, settled_long}
 use Rattle.mail_laws.proofs.WholeTurns.{parks_unless}
 use Rattle.mail_laws.proofs.Promises.{not_sent, still_sent}
-use Rattle.mail_laws.proofs.ToldAreWorlds.{all_told_is_world, set_back}
+use Rattle.mail_laws.proofs.ToldAreWorlds.{set_back}
+use Rattle.mail_laws.proofs.Prepared.{all_told_is_world}
 use Rattle.mail_laws.proofs.CallsTold.{times, times_waiting, total, one_where, not_among, Posted, are_sent, still_wait}
 use Rattle.mail_laws.proofs.TurnsTold.{Stands, Knows, it_stands, Behind, is_over, is_paused, is_parked, Turned, still_tells, turn_from}
 use Rattle.mail_laws.proofs.Beginnings.{over_tells, start_knows, start_size}
@@ -149,13 +151,6 @@ pub record AllHold (programs : List Program) (tellers : List Teller) (c : Common
   pub waits : NoneDue (map due_of tellers) ⊎ ((j : ℕ) → 0 < times_waiting j c.boxes → IsWaiting tellers j)
 
 -- ---- one event
-
--- who is sent nothing stays
-settle_out : (due : ℕ) (ss : List Settled) (tellers : List Teller) (j : ℕ) → NotAmong j ss → slice_get (settle_all due ss tellers) j ≡ slice_get tellers j
-settle_out due [] tellers j out = refl
-settle_out due (s ∷ ss) tellers j out =
-    settle_out due ss (slice_set tellers s.program (having_got due s.value (unwrap_or (slice_get tellers s.program) no_teller))) j out.1
-    ∙ set_there tellers s.program j (having_got due s.value (unwrap_or (slice_get tellers s.program) no_teller)) out.0
 
 -- who is sent a value waited, and has got it
 pub record Got (due : ℕ) (tellers : List Teller) (j : ℕ) (t : Teller) : Type 0 where
@@ -403,12 +398,6 @@ module _ (programs : List Program) (detaches : List Detach) (number : ℕ) (tell
       waits = inr (waits2 parking refl);
     }
       where
-        settled_long : (due : ℕ) (qs : List Settled) (ts : List Teller) → length (settle_all due qs ts) ≡ length ts
-        settled_long due [] ts = refl
-        settled_long due (q ∷ qs) ts =
-            settled_long due qs (slice_set ts q.program (having_got due q.value (unwrap_or (slice_get ts q.program) no_teller)))
-            ∙ length-set ts q.program (having_got due q.value (unwrap_or (slice_get ts q.program) no_teller))
-
         each : (j : ℕ) (w2 : Program) (t2 : Teller) (n2 : ℕ) → slice_get programs j ≡ Some w2 → slice_get now j ≡ Some t2 → slice_get (slice_set sizes i (new_size tu.after)) j ≡ Some n2 → Holds w2 t2 n2
         each j w2 t2 n2 ew et en = by (cases_eq j i)
           where
@@ -600,7 +589,7 @@ module _ (programs : List Program) (detaches : List Detach) (number : ℕ) (tell
 
 -- ---- all events
 
-pub record Whole (begun : ℕ) (programs : List Program) (detaches : List Detach) (boxes : List (List ℕ)) (ds : List Device) (before : List Line) : Type 0 where
+pub record Whole (begun : ℕ) (programs : List Program) (detaches : List Detach) (boxes : List (List ℕ)) (ds : List Device) (before : List Line) (first : List Teller) : Type 0 where
   pub count : ℕ
   pub more : List Line
   pub tellers : List Teller
@@ -609,10 +598,11 @@ pub record Whole (begun : ℕ) (programs : List Program) (detaches : List Detach
   pub tells : Tells begun programs detaches boxes ds count (before ++ more) tellers c
   pub holds : AllHold programs tellers c sizes
   pub over : HaveEnded tellers
+  pub grown : Grown first tellers
 
 module _ (begun : ℕ) (programs : List Program) (detaches : List Detach) (boxes : List (List ℕ)) (ds : List Device) where
   done : (count : ℕ) (lines : List Line) (tellers : List Teller) (c : Common) (sizes : List ℕ) → Tells begun programs detaches boxes ds count lines tellers c
-      → AllHold programs tellers c sizes → HaveEnded tellers → Whole begun programs detaches boxes ds lines
+      → AllHold programs tellers c sizes → HaveEnded tellers → Whole begun programs detaches boxes ds lines tellers
   done count lines tellers c sizes tells holds all_over = record {
     count = count;
     more = [];
@@ -622,10 +612,11 @@ module _ (begun : ℕ) (programs : List Program) (detaches : List Detach) (boxes
     tells = subst (λ (l : List Line). Tells begun programs detaches boxes ds count l tellers c) (sym (append-nil lines)) tells;
     holds = holds;
     over = all_over;
+    grown = grown_same tellers;
   }
 
-  behind : (lines more : List Line) → Whole begun programs detaches boxes ds (lines ++ more) → Whole begun programs detaches boxes ds lines
-  behind lines more h = record {
+  behind : (lines more : List Line) (first mid : List Teller) → Grown first mid → Whole begun programs detaches boxes ds (lines ++ more) mid → Whole begun programs detaches boxes ds lines first
+  behind lines more first mid grown h = record {
     count = h.count;
     more = more ++ h.more;
     tellers = h.tellers;
@@ -634,25 +625,26 @@ module _ (begun : ℕ) (programs : List Program) (detaches : List Detach) (boxes
     tells = subst (λ (l : List Line). Tells begun programs detaches boxes ds h.count l h.tellers h.c) (append_assoc lines more h.more) h.tells;
     holds = h.holds;
     over = h.over;
+    grown = grown_on first mid h.tellers grown h.grown;
   }
 
   -- from wherever it stands a world that is told comes to an end
   pub on_and_on : (fuel count : ℕ) (lines : List Line) (tellers : List Teller) (c : Common) (sizes : List ℕ) → sum sizes ≤ fuel → Tells begun programs detaches boxes ds count lines tellers c
-      → AllHold programs tellers c sizes → Whole begun programs detaches boxes ds lines
+      → AllHold programs tellers c sizes → Whole begun programs detaches boxes ds lines tellers
   on_and_on zero count lines tellers c sizes le tells holds = by (one_event programs detaches (suc (begun + count)) tellers c sizes holds)
     where
-      by : HaveEnded tellers ⊎ After programs detaches (suc (begun + count)) tellers c (sum sizes) → Whole begun programs detaches boxes ds lines
+      by : HaveEnded tellers ⊎ After programs detaches (suc (begun + count)) tellers c (sum sizes) → Whole begun programs detaches boxes ds lines tellers
       by (inl z) = done count lines tellers c sizes tells holds z
       by (inr a) = let never : ⊥ = omega (arith, le, a.less) in absurd never
   on_and_on (suc fuel) count lines tellers c sizes le tells holds =
       by (λ count lines tellers c sizes le tells holds. on_and_on fuel count lines tellers c sizes le tells holds) (one_event programs detaches (suc (begun + count)) tellers c sizes holds)
     where
       by : ((count : ℕ) (lines : List Line) (tellers : List Teller) (c : Common) (sizes : List ℕ) → sum sizes ≤ fuel → Tells begun programs detaches boxes ds count lines tellers c
-          → AllHold programs tellers c sizes → Whole begun programs detaches boxes ds lines)
-          → HaveEnded tellers ⊎ After programs detaches (suc (begun + count)) tellers c (sum sizes) → Whole begun programs detaches boxes ds lines
+          → AllHold programs tellers c sizes → Whole begun programs detaches boxes ds lines tellers)
+          → HaveEnded tellers ⊎ After programs detaches (suc (begun + count)) tellers c (sum sizes) → Whole begun programs detaches boxes ds lines tellers
       by on (inl z) = done count lines tellers c sizes tells holds z
       by on (inr a) =
-          behind lines a.lines
+          behind lines a.lines tellers a.tellers' (event_grows programs detaches (suc (begun + count)) tellers c a.lines a.tellers' a.c' a.event)
           (on (suc count) (lines ++ a.lines) a.tellers' a.c' a.sizes (omega (arith, le, a.less)) (lines, a.lines, tellers, c, tells, a.event, refl) a.holds)
 
 -- ---- from where programs begin

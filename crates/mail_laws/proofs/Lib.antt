@@ -10,6 +10,8 @@ pub mod CalmLines
 pub mod CutStories
 pub mod FixedLines
 pub mod GoingOn
+pub mod GoneOn
+pub mod Grown
 pub mod KeptDevices
 pub mod KnownCalls
 pub mod MailJournals
@@ -20,6 +22,7 @@ pub mod OpenMoves
 pub mod Played
 pub mod PlayedAreTold
 pub mod PlayedParts
+pub mod Prepared
 pub mod Promises
 pub mod RunsBeside
 pub mod SameOutcomes

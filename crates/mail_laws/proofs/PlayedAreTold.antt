@@ -24,14 +24,14 @@ use Rattle.mail_laws.specs.MailWorld.{store_behind, wake, woken, with_waiting, t
 use Rattle.mail_laws.specs.Mailboxes.{Mailbox, Shared, Midst, CallsMeet, mailed, empty_box}
 use Rattle.mail_laws.specs.Told.{Await, Common, Teller, promise, promised, receive_of, shared_by, number_of, midst_by, pending, KeepsPromises, waits_at, unless_waiting, due_of, IsLeast, NoneDue}
 use Rattle.mail_laws.specs.Told.{having_told, having_got, no_teller, settle_all, NotAmong, AreSent, parked_in, begun_amid, starting as teller_at, opening as told_opening}
-use Rattle.mail_laws.specs.Told.{Tells, TellsTurn, TellsStall, TellsEvent, tells_turn, tells_stall, if_going, ToldGoesOn}
+use Rattle.mail_laws.specs.Told.{Tells, TellsTurn, TellsStall, TellsEvent, tells_turn, tells_stall, if_going}
 use Rattle.mail_laws.specs.Played.{ProtocolWorldUpToFrom, Played, EndsAreTold, WorldsGoOn}
 use Rattle.mail_laws.specs.Stalling.{note_stalls, WorldsStallLast}
 use Rattle.mail_laws.proofs.WholeTurns.{parks_unless, pauses_behind, store_last}
 use Rattle.mail_laws.proofs.Promises.{pick, keeps_other, still_sent, parked_boxes, parks_map, told_map}
 use Rattle.mail_laws.proofs.Stalling.{both_false, stalls_last}
 use Rattle.mail_laws.proofs.Played.{starts_long}
-use Rattle.mail_laws.proofs.ToldAreWorlds.{Whole, dues_at, none_going, not_parked, parked_of, told_is_world}
+use Rattle.mail_laws.proofs.ToldAreWorlds.{Whole, dues_at, none_going, not_parked, parked_of}
 use Rattle.mail_laws.proofs.CallsTold.{times, times_waiting, one_where, one_here}
 use Rattle.mail_laws.proofs.TurnsTold.{Knows, it_stands, only_ends, still_tells, Turned}
 use Rattle.mail_laws.proofs.TurnsFollowed.{Cut, Followed, follow, f_end}
@@ -524,16 +524,16 @@ module _ (programs : List Program) (detaches : List Detach) (count number : ℕ)
 
 -- ---- all events
 
-record AllTold (begun : ℕ) (programs : List Program) (detaches : List Detach) (boxes : List (List ℕ)) (ds : List Device) (wholes : List Whole) (lines : List Line) (last : List Actor)
+pub record AllTold (begun : ℕ) (programs : List Program) (detaches : List Detach) (boxes : List (List ℕ)) (ds : List Device) (wholes : List Whole) (lines : List Line) (last : List Actor)
     (sh : Shared) : Type 0 where
-  count : ℕ
-  tellers : List Teller
-  c : Common
-  sizes : List ℕ
-  tells : Tells begun programs detaches boxes ds count lines tellers c
-  holds : AllHold programs tellers c sizes
-  will : ℕ → ℕ
-  small : (j : ℕ) → will j < 2 ^ 32
+  pub count : ℕ
+  pub tellers : List Teller
+  pub c : Common
+  pub sizes : List ℕ
+  pub tells : Tells begun programs detaches boxes ds count lines tellers c
+  pub holds : AllHold programs tellers c sizes
+  pub will : ℕ → ℕ
+  pub small : (j : ℕ) → will j < 2 ^ 32
   pub beside : Beside will wholes tellers last
   shared : sh ≡ shared_by will c
   calm : Calm lines tellers
@@ -613,7 +613,7 @@ module _ (begun : ℕ) (programs : List Program) (detaches : List Detach) (boxes
   pub start_going : Going programs (map teller_at programs)
   start_going j w t ew et f = ap (λ (x : Teller). x.has_ended) (same_Some (teller_at w) t (sym (map_at teller_at programs j w ew) ∙ et)) ∙ f
 
-  world_told : AllTold begun programs detaches boxes ds (map whole_from world.actors) lines world.now world.shared
+  pub world_told : AllTold begun programs detaches boxes ds (map whole_from world.actors) lines world.now world.shared
   world_told =
       walks begun programs detaches boxes ds (map whole_from world.actors) stories world.count 0 (suc begun) [] lines (map teller_at programs) (told_opening boxes ds) (map start_size programs)
       (λ (j : ℕ). 0) world.actors world.now (sharing boxes ds) world.shared (omega arith) (λ j. omega arith) (refl, refl, refl) (start_holds programs boxes ds) beside (λ j t e f. refl) start_going
@@ -645,10 +645,6 @@ pub worlds_go_on : WorldsGoOn
 worlds_go_on begun programs detaches boxes ds ds' number lines world =
     let all = world_told begun programs detaches boxes ds ds' number lines world in
     told_from begun programs detaches boxes ds all.count lines all.tellers all.c all.sizes all.tells all.holds
-
-pub told_goes_on : ToldGoesOn
-told_goes_on begun programs detaches boxes ds count lines tellers c tells begin =
-    worlds_go_on begun programs detaches boxes ds c.devices (begun + count) lines (told_is_world begun programs detaches boxes ds count lines tellers c tells begin)
 
 pub worlds_stall_last : WorldsStallLast
 worlds_stall_last begun programs detaches boxes ds ds' number lines more actors' sh' world play =

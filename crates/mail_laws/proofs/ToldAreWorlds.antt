@@ -1,6 +1,6 @@
 -- Turns that were told are a world: the notes and outcomes that the definition wants beforehand are those that were told, and what is
 -- still to be told behind them; what a program is promised is what it was sent in the end.
-use Rattle.std.proofs.Common.{arith, ◌≡◌, ◌<◌, ◌≤◌, ◌+◌, ◌^◌, ◌⊎◌, inl, inr, ℕ, zero, suc, List, [], ◌∷◌, ◌++◌, length, get_or, map, Option, Some, None, Bool, true, false, slice_get, slice_set, refl}
+use Rattle.std.proofs.Common.{arith, ◌≡◌, ◌<◌, ◌≤◌, ◌+◌, ◌^◌, ◌⊎◌, inl, inr, ℕ, zero, suc, List, [], ◌∷◌, ◌++◌, length, map, Option, Some, None, Bool, true, false, slice_get, slice_set, refl}
 use Rattle.std.proofs.Common.{sym, ap, ◌∙◌, subst, append_assoc, append-nil, length-set, nat_eq, eq-eqb}
 use Rattle.std.specs.Prelude.{◌&&◌, ◌||◌}
 use Rattle.std.specs.List.{AllZip}
@@ -8,7 +8,7 @@ use Rattle.std.specs.Option.{option_map, unwrap_or}
 use Rattle.std.proofs.lemmas.Bool.{cases_eq}
 use Rattle.std.proofs.lemmas.List.{length-map, set-set, map-append}
 use Rattle.std.proofs.lemmas.List.Folds.{list_any-append}
-use Rattle.std.proofs.lemmas.Option.{slice_get-map, slice_get-get_or, slice_get_within, same_Some}
+use Rattle.std.proofs.lemmas.Option.{slice_get-map, slice_get_within, same_Some}
 use Rattle.wa_model.specs.declared.answers.Detach.{Detach}
 use Rattle.wa_model.specs.Outside.{Event, called, answered, paused, parked, returned, ended, shown, Line}
 use Rattle.wa_model.specs.Plan.{Outcome}
@@ -18,16 +18,15 @@ use Rattle.world_model.specs.World.{Device, Program, Look, turn_of, behind_turn,
 use Rattle.world_laws.proofs.Places.{item, map_at, of_map, set_here, set_there, set_same, zipped}
 use Rattle.mailbox_device.specs.declared.mailbox.Settled.{Settled}
 use Rattle.mailbox_device.specs.Mail.{empty_box as no_mail}
-use Rattle.mail_laws.specs.MailWorld.{Actor, Parked, Plays, a_turn, a_stall, IsNext, IsReady, StartsHeld, HeldStory, IsOver, nobody, sharing, parked_at, parks, told_pause, store_behind, wake, woken}
+use Rattle.mail_laws.specs.MailWorld.{Actor, Parked, Plays, a_turn, a_stall, IsNext, IsReady, StartsHeld, HeldStory, nobody, sharing, parked_at, parks, told_pause, store_behind, wake, woken}
 use Rattle.mail_laws.specs.MailWorld.{with_waiting, tells_end, begun_event, begins_over}
 use Rattle.mail_laws.specs.Mailboxes.{Receive, Mailbox, Shared, Midst, CallsMeet, mailed, empty_box}
-use Rattle.mail_laws.specs.Played.{Played, EndsAreTold}
+use Rattle.mail_laws.specs.Played.{Played}
 use Rattle.mail_laws.specs.Told.{Await, Common, Teller, promised, receive_of, shared_by, number_of, midst_by, pending, starting, if_going, waits_at, unless_waiting, due_of, ends_program, having_told}
-use Rattle.mail_laws.specs.Told.{having_got, no_teller, settle_all, NotAmong, AreSent, parked_in, begun_amid, TellsTurn, TellsStall, TellsEvent, tells_turn, tells_stall, Tells, IsRest, HasStory}
-use Rattle.mail_laws.specs.Told.{ToldIsWorld, AllToldIsWorld, HaveMet}
+use Rattle.mail_laws.specs.Told.{having_got, no_teller, settle_all, NotAmong, AreSent, parked_in, begun_amid, TellsTurn, TellsStall, TellsEvent, tells_turn, tells_stall, Tells, IsRest}
 use Rattle.mail_laws.proofs.WholeTurns.{turn_whole, behind_whole, some_note, calls_behind, parks_unless, store_last}
 use Rattle.mail_laws.proofs.Promises.{fixed, fixed_here, fixed_there, fixed_out, fixed_none, fixed_small, fixed_keeps, not_sent, still_sent, boxes_same, parked_boxes, parks_map, told_map}
-use Rattle.mail_laws.proofs.Played.{one_more, as_events}
+use Rattle.mail_laws.proofs.Played.{one_more}
 
 -- all that a program tells, and all the outcomes that its calls meet
 pub record Whole : Type 0 where
@@ -40,7 +39,7 @@ parked_of s o = parked_at s (option_map (receive_of 0) o)
 
 -- A program of the world stands where a teller does, before what is still to come of the whole; where it waits it will be sent
 -- this value.
-record Ties (value : ℕ) (t : Teller) (h : Whole) (a : Actor) : Type 0 where
+pub record Ties (value : ℕ) (t : Teller) (h : Whole) (a : Actor) : Type 0 where
   pub due : a.due ≡ t.due
   pub answers : a.answers ≡ t.answers
   pub notes : t.told ++ a.notes ≡ h.notes
@@ -48,7 +47,7 @@ record Ties (value : ℕ) (t : Teller) (h : Whole) (a : Actor) : Type 0 where
   pub parked : a.parked ≡ parked_of (store_behind t.told) (waits_at t)
   pub is_rest : IsRest t.has_ended t.receive a.notes
 
-record Foretold (will : ℕ → ℕ) (wholes : List Whole) (tellers : List Teller) (actors : List Actor) : Type 0 where
+pub record Foretold (will : ℕ → ℕ) (wholes : List Whole) (tellers : List Teller) (actors : List Actor) : Type 0 where
   pub wide : length wholes ≡ length tellers
   pub long : length actors ≡ length tellers
   pub each : (i : ℕ) (t : Teller) (h : Whole) (a : Actor) → slice_get tellers i ≡ Some t → slice_get wholes i ≡ Some h → slice_get actors i ≡ Some a → Ties (will i) t h a
@@ -476,7 +475,7 @@ pub none_going : (b : Bool) → if_going b nowhere ≡ nowhere
 none_going true = refl
 none_going false = refl
 
-record Reached (begun : ℕ) (programs : List Program) (detaches : List Detach) (boxes : List (List ℕ)) (ds : List Device) (wholes : List Whole) (count : ℕ) (lines : List Line) (actors : List Actor)
+pub record Reached (begun : ℕ) (programs : List Program) (detaches : List Detach) (boxes : List (List ℕ)) (ds : List Device) (wholes : List Whole) (count : ℕ) (lines : List Line) (actors : List Actor)
     (sh : Shared) : Type 0 where
   pub start : List Actor
   pub outcomes : (i : ℕ) (h : Whole) (a : Actor) → slice_get wholes i ≡ Some h → slice_get start i ≡ Some a → a.outcomes ≡ h.outcomes
@@ -513,7 +512,7 @@ module _ (begun : ℕ) (programs : List Program) (detaches : List Detach) (boxes
   opens will [] = refl
   opens will (n ∷ names) = ap (λ (l : List Mailbox). empty_box n ∷ l) (opens will names)
 
-  reaches : (count : ℕ) (will : ℕ → ℕ) → ((j : ℕ) → will j < 2 ^ 32) → (lines : List Line) (tellers : List Teller) (c : Common) (actors : List Actor)
+  pub reaches : (count : ℕ) (will : ℕ → ℕ) → ((j : ℕ) → will j < 2 ^ 32) → (lines : List Line) (tellers : List Teller) (c : Common) (actors : List Actor)
       → Tells begun programs detaches boxes ds count lines tellers c → Foretold will wholes tellers actors → Reached begun programs detaches boxes ds wholes count lines actors (shared_by will c)
   reaches zero will small lines tellers c actors tells fore =
       record {
@@ -610,7 +609,7 @@ settle_keeps due (s ∷ ss) tellers j t e = by (settle_keeps due ss (slice_set t
 module _ (begun : ℕ) (programs : List Program) (detaches : List Detach) (boxes : List (List ℕ)) (ds : List Device) (i : ℕ) (w : Program) (ew : slice_get programs i ≡ Some w)
     (going : begins_over w ≡ false) where
   -- who has ended since it began has told an end
-  ends_told : (count : ℕ) (lines : List Line) (tellers : List Teller) (c : Common) → Tells begun programs detaches boxes ds count lines tellers c
+  pub ends_told : (count : ℕ) (lines : List Line) (tellers : List Teller) (c : Common) → Tells begun programs detaches boxes ds count lines tellers c
       → (t : Teller) → slice_get tellers i ≡ Some t → t.has_ended ≡ true → tells_end i lines ≡ true
   ends_told zero lines tellers c tells t there done =
       let same : starting w ≡ t =
@@ -656,152 +655,3 @@ module _ (begun : ℕ) (programs : List Program) (detaches : List Detach) (boxes
               (inl (both_true (nat_eq play.i play.i) true (eq-eqb play.i play.i refl) refl))
               )
           at (inr other) = inl (on t (sym (set_there tells.2 play.i i now other) ∙ there2) over)
-
--- ---- what is still to come
-
--- a promise to the first, and those to the others
-first_then : ℕ → (ℕ → ℕ) → ℕ → ℕ
-first_then v will zero = v
-first_then v will (suc j) = will j
-
-record Prepared (programs : List Program) (tellers : List Teller) : Type 0 where
-  pub will : ℕ → ℕ
-  pub small : (j : ℕ) → will j < 2 ^ 32
-  pub wholes : List Whole
-  pub actors : List Actor
-  pub fore : Foretold will wholes tellers actors
-  pub stories : (i : ℕ) (w : Program) (h : Whole) → slice_get programs i ≡ Some w → slice_get wholes i ≡ Some h → HeldStory w h.outcomes h.notes
-
-abbrev whole_of : (t : Teller) (value : ℕ) (rest : List Note) (more : List Outcome) → Whole
-whole_of t value rest more = record { notes = t.told ++ rest; outcomes = t.met ++ pending value t.receive ++ more }
-
-abbrev actor_of : (t : Teller) (rest : List Note) (more : List Outcome) → Actor
-actor_of t rest more = record { due = t.due; notes = rest; outcomes = more; answers = t.answers; parked = parked_of (store_behind t.told) (waits_at t) }
-
-prepared : (programs : List Program) (tellers : List Teller) → AllZip HasStory programs tellers → Prepared programs tellers
-unfolding first_then
-prepared [] [] all = record {
-  will = λ (j : ℕ). 0;
-  small = λ j. omega arith;
-  wholes = [];
-  actors = [];
-  fore = record { wide = refl; long = refl; each = λ i t h a et eh ea. absurd cc };
-  stories = λ i w h ew eh. absurd cc;
-}
-prepared [] (t ∷ tellers) all = absurd all
-prepared (w ∷ programs) [] all = absurd all
-prepared (w ∷ programs) (t ∷ tellers) all =
-    let s = all.0 in
-    let on = prepared programs tellers all.1 in
-    record {
-      will = first_then s.value on.will;
-      small = small s on;
-      wholes = whole_of t s.value s.rest s.more ∷ on.wholes;
-      actors = actor_of t s.rest s.more ∷ on.actors;
-      fore = record { wide = ap suc on.fore.wide; long = ap suc on.fore.long; each = each s on };
-      stories = stories s on;
-    }
-  where
-    small : (s : HasStory w t) (on : Prepared programs tellers) (j : ℕ) → first_then s.value on.will j < 2 ^ 32
-    small s on zero = s.small
-    small s on (suc j) = on.small j
-
-    each : (s : HasStory w t) (on : Prepared programs tellers) (i : ℕ) (t' : Teller) (h' : Whole) (a' : Actor) → slice_get (t ∷ tellers) i ≡ Some t'
-        → slice_get (whole_of t s.value s.rest s.more ∷ on.wholes) i ≡ Some h' → slice_get (actor_of t s.rest s.more ∷ on.actors) i ≡ Some a' → Ties (first_then s.value on.will i) t' h' a'
-    each s on zero t' h' a' et eh ea =
-        let tie : Ties s.value t (whole_of t s.value s.rest s.more) (actor_of t s.rest s.more) =
-        record { due = refl; answers = refl; notes = refl; outcomes = refl; parked = refl; is_rest = s.is_rest } in
-        subst (λ (x : Teller). Ties s.value x h' a') (same_Some _ _ et)
-        (subst (λ (x : Whole). Ties s.value t x a') (same_Some _ _ eh) (subst (λ (x : Actor). Ties s.value t (whole_of t s.value s.rest s.more) x) (same_Some _ _ ea) tie))
-    each s on (suc i) t' h' a' et eh ea = on.fore.each i t' h' a' et eh ea
-
-    stories : (s : HasStory w t) (on : Prepared programs tellers) (i : ℕ) (w' : Program) (h' : Whole) → slice_get (w ∷ programs) i ≡ Some w'
-        → slice_get (whole_of t s.value s.rest s.more ∷ on.wholes) i ≡ Some h' → HeldStory w' h'.outcomes h'.notes
-    stories s on zero w' h' ew eh =
-        subst (λ (x : Whole). HeldStory w' x.outcomes x.notes) (same_Some _ _ eh)
-        (subst (λ (x : Program). HeldStory x (t.met ++ pending s.value t.receive ++ s.more) (t.told ++ s.rest)) (same_Some _ _ ew) s.story)
-    stories s on (suc i) w' h' ew eh = on.stories i w' h' ew eh
-
-no_some : (p : Parked) → Some p ≡ None → ⊥
-no_some p e = cc
-
--- who has nothing to tell and doesn't wait has ended
-pub is_over : (b : Bool) (o : Option Await) (s : Store) (rest : List Note) (p : Option Parked) → IsRest b o rest → p ≡ parked_of s (if_going b o) → rest ≡ [] → p ≡ None → b ≡ true
-is_over true o s rest p is e none awake = refl
-is_over false None s rest p is e none awake = let no_way : ⊥ = omega (arith, is, ap length none) in absurd no_way
-is_over false (Some r) s rest p is e none awake = absurd (no_some (record { import = r.import; store = s }) (sym e ∙ awake))
-
-ended_over : (b : Bool) (o : Option Await) (s : Store) (rest : List Note) (p : Option Parked) → IsRest b o rest → p ≡ parked_of s (if_going b o) → b ≡ true → (rest ≡ []) × (p ≡ None)
-ended_over true o s rest p is e t = (is, e)
-ended_over false o s rest p is e t = absurd cc
-
-pub told_is_world : ToldIsWorld
-told_is_world begun programs detaches boxes ds count lines tellers c tells all =
-    let p = prepared programs tellers all in
-    let on = reaches begun programs detaches boxes ds p.wholes p.stories count p.will p.small lines tellers c p.actors tells p.fore in
-    record {
-      actors = on.start;
-      now = p.actors;
-      shared = shared_by p.will c;
-      starts = on.starts;
-      count = count;
-      numbered = refl;
-      played = on.played;
-      devices = refl;
-      ends = ends p;
-    }
-  where
-    ends : (p : Prepared programs tellers) → EndsAreTold programs lines p.actors
-    ends p i w a ew ea going none awake =
-        let t = item tellers i (omega (arith, slice_get_within p.actors i a ea, p.fore.long)) in
-        let h = item p.wholes i (omega (arith, slice_get_within p.actors i a ea, p.fore.long, p.fore.wide)) in
-        let tie = p.fore.each i t.0 h.0 a t.1 h.1 ea in
-        ends_told begun programs detaches boxes ds i w ew going count lines tellers c tells t.0 t.1
-        (is_over t.0.has_ended t.0.receive (store_behind t.0.told) a.notes a.parked tie.is_rest tie.parked none awake)
-
-pub all_told_is_world : AllToldIsWorld
-all_told_is_world begun programs detaches boxes ds count lines tellers c tells all done =
-    let p = prepared programs tellers all in
-    let on = reaches begun programs detaches boxes ds p.wholes p.stories count p.will p.small lines tellers c p.actors tells p.fore in (
-      record {
-        actors = on.start;
-        starts = on.starts;
-        runs = record {
-          last = p.actors;
-          shared = shared_by p.will c;
-          events = as_events programs detaches count (suc begun) on.start p.actors (sharing boxes ds) (shared_by p.will c) lines on.played;
-          over = over p;
-          devices = refl;
-        };
-        ends = each;
-      },
-      met_first p on.start on.outcomes,
-    )
-  where
-    -- what was met begins what an actor's calls meet
-    met_first : (p : Prepared programs tellers) (start : List Actor) → ((i : ℕ) (h : Whole) (a : Actor) → slice_get p.wholes i ≡ Some h → slice_get start i ≡ Some a → a.outcomes ≡ h.outcomes)
-        → HaveMet tellers start
-    met_first p start same i t a et ea =
-        let b = item p.actors i (omega (arith, slice_get_within tellers i t et, p.fore.long)) in
-        let h = item p.wholes i (omega (arith, slice_get_within tellers i t et, p.fore.wide)) in
-        (p.will i, p.small i, (b.0.outcomes, same i h.0 a h.1 ea ∙ sym (p.fore.each i t h.0 b.0 et h.1 b.1).outcomes))
-
-    over : (p : Prepared programs tellers) → IsOver p.actors
-    over p k d within =
-        let a = get_or p.actors k d in
-        let t = item tellers k (omega (arith, within, p.fore.long)) in
-        let h = item p.wholes k (omega (arith, within, p.fore.long, p.fore.wide)) in
-        let tie = p.fore.each k t.0 h.0 a t.1 h.1 (slice_get-get_or p.actors k d within) in
-        let o = ended_over t.0.has_ended t.0.receive (store_behind t.0.told) a.notes a.parked tie.is_rest tie.parked (done k t.0 t.1) in
-        record { no_notes = o.0; awake = o.1 }
-
-    zip_long : (ws : List Program) (ts : List Teller) → AllZip HasStory ws ts → length ts ≡ length ws
-    zip_long [] [] z = refl
-    zip_long [] (t ∷ ts) z = absurd z
-    zip_long (w ∷ ws) [] z = absurd z
-    zip_long (w ∷ ws) (t ∷ ts) z = ap suc (zip_long ws ts z.1)
-
-    each : (i : ℕ) (w : Program) → slice_get programs i ≡ Some w → begins_over w ≡ false → tells_end i lines ≡ true
-    each i w ew going =
-        let t = item tellers i (omega (arith, slice_get_within programs i w ew, zip_long programs tellers all)) in
-        ends_told begun programs detaches boxes ds i w ew going count lines tellers c tells t.0 t.1 (done i t.0 t.1)

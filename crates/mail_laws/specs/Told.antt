@@ -290,9 +290,9 @@ AllToldIsWorld =
     → Tells begun programs detaches boxes ds count lines tellers c → AllZip HasStory programs tellers → HaveEnded tellers
     → (world : ProtocolWorldFrom begun programs detaches boxes ds lines c.devices) × HaveMet tellers world.actors
 
--- and up to whatever event they were told, the world goes on to an end.
+-- and up to whatever event they were told, the world goes on to an end, with calls that meet first what the programs' calls have met.
 abbrev pub ToldGoesOn : Type 0
 ToldGoesOn =
     (begun : ℕ) (programs : List Program) (detaches : List Detach) (boxes : List (List ℕ)) (ds : List Device) (count : ℕ) (lines : List Line) (tellers : List Teller) (c : Common)
     → Tells begun programs detaches boxes ds count lines tellers c → AllZip HasStory programs tellers
-    → (more : List Line) × (last : List Device) × ProtocolWorldFrom begun programs detaches boxes ds (lines ++ more) last
+    → (more : List Line) × (last : List Device) × (world : ProtocolWorldFrom begun programs detaches boxes ds (lines ++ more) last) × HaveMet tellers world.actors

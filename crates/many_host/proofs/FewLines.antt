@@ -67,12 +67,12 @@ tells_lines begun programs detaches ds (suc count) lines tellers ds' h =
 
 -- ---- all looks are shows
 
-abbrev all_looks : List Program → ℕ
+abbrev pub all_looks : List Program → ℕ
 all_looks [] = 0
 all_looks (w ∷ ws) = length w.looks + all_looks ws
 
 -- the looks of so many programs from this number on
-abbrev looks_from : (count from : ℕ) → List Show → ℕ
+abbrev pub looks_from : (count from : ℕ) → List Show → ℕ
 looks_from zero from shows = 0
 looks_from (suc count) from shows = length (looks_of from shows) + looks_from count (suc from) shows
 
@@ -119,7 +119,7 @@ no_looks : (count from : ℕ) → looks_from count from [] ≡ 0
 no_looks zero from = refl
 no_looks (suc count) from = let rest = no_looks count (suc from) in omega (arith, rest)
 
-looks_few : (count from : ℕ) (shows : List Show) → looks_from count from shows ≤ length shows
+pub looks_few : (count from : ℕ) (shows : List Show) → looks_from count from shows ≤ length shows
 looks_few count from [] = let none = no_looks count from in omega (arith, none)
 looks_few count from (s ∷ shows) =
     let more = more_looks count from s shows in
@@ -127,7 +127,7 @@ looks_few count from (s ∷ shows) =
     let rest = looks_few count from shows in
     omega (arith, more, once, rest)
 
-looks_are : (shows : List Show) (from : ℕ) (ws : List Program) → ((i : ℕ) (w : Program) → slice_get ws i ≡ Some w → w.looks ≡ looks_of (from + i) shows) → all_looks ws ≡ looks_from (length ws) from shows
+pub looks_are : (shows : List Show) (from : ℕ) (ws : List Program) → ((i : ℕ) (w : Program) → slice_get ws i ≡ Some w → w.looks ≡ looks_of (from + i) shows) → all_looks ws ≡ looks_from (length ws) from shows
 looks_are shows from [] each = refl
 looks_are shows from (w ∷ ws) each =
     let here : from + 0 ≡ from = omega arith in

@@ -9,10 +9,13 @@ pub mod FewTurns
 pub mod Further
 pub mod KeptTables
 pub mod MailBoxes
+pub mod MailFew
 pub mod MailKept
 pub mod MailNotes
 pub mod MailSettled
 pub mod MailStories
+pub mod MailSums
+pub mod MailWorlds
 pub mod MetLines
 pub mod Notes
 pub mod Numbers

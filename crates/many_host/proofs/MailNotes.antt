@@ -17,6 +17,7 @@ use Rattle.mailbox_device.proofs.Orderly.{empty_waits, orderly_empty}
 use Rattle.mail_laws.specs.Mailboxes.{CallsMeet}
 use Rattle.mail_laws.specs.MailWorld.{is_pause, parks, pauses, store_behind, told_pause}
 use Rattle.mail_laws.specs.Told.{Amid, AreSent, Await, IsLeast, IsWaiting, NotAmong, Teller, Tells, TellsTurn, begun_amid, due_of, ends_program, having_told, if_going, midst_by, parked_in, pending, settle_all, starting, tells_stall, tells_turn, waits_at}
+use Rattle.mail_laws.proofs.Grown.{HasGot, got_at, settle_out}
 use Rattle.mail_laws.proofs.GoingOn.{due_is, over_says}
 use Rattle.mail_laws.proofs.CallsTold.{AreSmall, are_sent, not_among, one_here, times_settled}
 use Rattle.mail_laws.proofs.Promises.{not_sent, still_sent}
@@ -30,7 +31,7 @@ use Rattle.many_host.specs.ToldMail.{AllPaused, MailStalls, MailTurnAwake, MailT
 use Rattle.many_host.proofs.Notes.{goes_on_more, looks_more, off_more, off_none}
 use Rattle.many_host.proofs.MailBoxes.{settled_on, waits_is}
 use Rattle.many_host.proofs.MailKept.{Kept, at_once, begins_amid, kept_on, sent_small, sent_waits, settled_first, still_of, takes_behind, takes_moves}
-use Rattle.many_host.proofs.MailSettled.{HasGot, ends_stand, got_at, nowhere, settle_on, settle_out, settle_past, stall_stands}
+use Rattle.many_host.proofs.MailSettled.{ends_stand, nowhere, settle_on, settle_past, stall_stands}
 
 -- ---- before the first event
 
@@ -74,11 +75,18 @@ teller_due tellers i due there =
     (x.0, x.1, is.0, is.1, sym is.2)
 
 -- the program of the least due tick
-awake_there : (tellers : List Teller) (i due : ℕ) (t : Teller) → IsLeast (map due_of tellers) i due → slice_get tellers i ≡ Some t → t.receive ≡ None
+pub awake_there : (tellers : List Teller) (i due : ℕ) (t : Teller) → IsLeast (map due_of tellers) i due → slice_get tellers i ≡ Some t → t.receive ≡ None
 awake_there tellers i due t least there =
     let d = teller_due tellers i due least.there in
     let same : d.0 ≡ t = same_Some d.0 t (sym d.1 ∙ there) in
     ap (λ (y : Teller). y.receive) (sym same) ∙ d.3
+
+-- who is due hasn't ended
+pub live_there : (tellers : List Teller) (i due : ℕ) (t : Teller) → IsLeast (map due_of tellers) i due → slice_get tellers i ≡ Some t → t.has_ended ≡ false
+live_there tellers i due t least there =
+    let d = teller_due tellers i due least.there in
+    let same : d.0 ≡ t = same_Some d.0 t (sym d.1 ∙ there) in
+    ap (λ (y : Teller). y.has_ended) (sym same) ∙ d.2
 
 pub mail_turn_awake : MailTurnAwake
 mail_turn_awake begun programs detaches boxes ds count i due lines tellers now on =
@@ -148,7 +156,7 @@ quiet_ends x e = by x.event e
     by (returned i v) h = refl
     by (shown i v) h = refl
 
-ends_none : (xs : List Note) → GoesOn xs → ends_program xs ≡ false
+pub ends_none : (xs : List Note) → GoesOn xs → ends_program xs ≡ false
 ends_none [] g = refl
 ends_none (y ∷ ys) g = ap (λ (b : Bool). b || ends_program ys) (quiet_ends y g.0) ∙ ends_none ys g.1
 

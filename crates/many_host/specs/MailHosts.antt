@@ -1,19 +1,18 @@
 -- What a host of several programs has told where there are mailboxes.
-use Rattle.std.specs.Prelude.{◌≡◌, ◌<◌, ◌^◌, ℕ, List, All, Option, None, Some, MatchOption, slice_get}
+use Rattle.std.specs.Prelude.{◌≡◌, ℕ, List, All, Option, None, MatchOption}
 use Rattle.wa_model.specs.declared.answers.Detach.{Detach}
 use Rattle.wa_model.specs.declared.events.Line.{Line as LineValue}
 use Rattle.wa_model.specs.Outside.{Line}
-use Rattle.wa_model.specs.Behaves.{IsPrefix}
 use Rattle.wa_model.specs.View.{line_of}
 use Rattle.world_model.specs.World.{Device}
 use Rattle.world_model.specs.World as W
 use Rattle.event_order.specs.Left.{Counted}
 use Rattle.mailbox_device.specs.Mail.{Mail}
-use Rattle.mail_laws.specs.MailWorld.{Actor, ProtocolWorldFrom}
-use Rattle.mail_laws.specs.Told.{Teller}
+use Rattle.mail_laws.specs.MailWorld.{ProtocolWorldFrom}
+use Rattle.mail_laws.specs.Told.{HaveMet, Teller}
 use Rattle.pause_host.specs.declared.program.Program.{Program}
 use Rattle.pause_host.specs.Programs.{receive_in}
-use Rattle.many_host.specs.MailStanding.{StandingFrom, TellsLineFrom, met_with}
+use Rattle.many_host.specs.MailStanding.{StandingFrom, TellsLineFrom}
 use Rattle.many_host.specs.Standing.{held_of}
 use Rattle.many_host.specs.declared.host.Host.{Host}
 
@@ -26,11 +25,6 @@ NoneWaits xs = All (λ (x : Program). receive_in x ≡ None) xs
 abbrev pub HostTellsFrom : (begun : ℕ) → List W.Program → List Detach → (boxes : List (List ℕ)) → List Device → List Line → Host → List Device → Mail → Type 0
 HostTellsFrom begun programs detaches boxes ds lines h ds' mail =
     StandingFrom begun programs detaches boxes ds lines (held_of h.turns) h.turns.last ds' mail h.turns.stage
-
--- What each program's calls have met, with the answer that it got to a receive that wasn't answered, are the first outcomes of its actor.
-abbrev pub HaveMet : List Teller → List Actor → Type 0
-HaveMet tellers actors =
-    (i : ℕ) (t : Teller) (a : Actor) → slice_get tellers i ≡ Some t → slice_get actors i ≡ Some a → (value : ℕ) × (value < 2 ^ 32) × IsPrefix (met_with value t) a.outcomes
 
 -- It told one line more, with what its call met and took; or there is none, and what was told is a whole run of the world, whose calls met what the
 -- programs' calls did, and which leaves these devices, as they were.

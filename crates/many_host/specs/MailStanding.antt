@@ -4,7 +4,7 @@ use Rattle.std.specs.List.{AllZip, find}
 use Rattle.wa_types.specs.declared.values.Value.TheVariants as V
 use Rattle.wa_model.specs.declared.answers.Detach.{Detach}
 use Rattle.wa_model.specs.declared.events.Line.{Line as LineValue}
-use Rattle.wa_model.specs.Outside.{AnswerLine, Call, Event, Line, parked}
+use Rattle.wa_model.specs.Outside.{AnswerLine, Call, Event, Line}
 use Rattle.wa_model.specs.Plan.{Outcome}
 use Rattle.wa_model.specs.View.{line_of}
 use Rattle.wa_model.specs.Blocking.{Note}
@@ -63,6 +63,7 @@ pub record HasStalled (shows : List Show) (i : ℕ) (w : Program) (t : Teller) (
   pub story : HasStory w t
   pub memory_is : memory_of x ≡ (store_behind t.told).memory
   pub looks : w.looks ≡ looks_of i shows
+  pub few_steps : w.steps ≤ 1000000000
 
 -- A program of a world is held in one of these ways; or nothing is to come of it, and what is held in its place isn't parked.
 pub data Holds (shows : List Show) (i : ℕ) (w : Program) (t : Teller) (x : Hosted) : Type 0 where
@@ -89,7 +90,12 @@ pub record MailStands (names : List (List ℕ)) (tellers : List Teller) (mail : 
 abbrev pub common_of : List Device → Mail → (last : ℕ) → Common
 common_of ds mail last = record { devices = ds; boxes = mail.boxes; tick = last }
 
--- Behind so many events whole ones are told; or a turn has begun; or whole ones but for what is still to be shown of a program's memory. The last
+-- when programs are due: that of a turn on its way at its tick, be it that it waits behind the turn
+abbrev pub dues_at : List Teller → Stage → List (Option ℕ)
+dues_at tellers (Telling turn) = slice_set (map due_of tellers) turn.program (Some turn.due)
+dues_at tellers _ = map due_of tellers
+
+-- Behind so many events whole ones are told; or a turn has begun, whose program isn't parked; or whole ones but for what is still to be shown of a program's memory. The last
 -- event had this tick.
 abbrev pub StandsAtFrom : (begun : ℕ) → List Program → List Detach → (boxes : List (List ℕ)) → List Device → (count : ℕ) → List Line → List Teller → Held Hosted → (last : ℕ)
     → List Device → Mail → Stage → Type 0
@@ -97,7 +103,9 @@ StandsAtFrom begun programs detaches boxes ds count lines tellers h last ds' mai
     Tells begun programs detaches boxes ds count lines tellers (common_of ds' mail last) × MailStands boxes tellers mail
 StandsAtFrom begun programs detaches boxes ds count lines tellers h last ds' mail (Telling turn) =
     (number : ℕ) × (count ≡ suc number) × (t : Teller) × (slice_get tellers turn.program ≡ Some t)
-    × TellsOnFrom begun programs detaches boxes ds number turn.program turn.due lines tellers (amid_of ds' mail t.receive) × (last ≡ turn.due)
+    × (sent : List Settled) × (mail.settled ≡ [])
+    × TellsOnFrom begun programs detaches boxes ds number turn.program turn.due lines tellers (amid_of ds' (record mail { settled = sent }) t.receive) × (last ≡ turn.due)
+    × ((x : Hosted) → slice_get h.programs turn.program ≡ Some x → parked_in x.program ≡ None)
 StandsAtFrom begun programs detaches boxes ds count lines tellers h last ds' mail (Showing turn from) =
     (x : Hosted) × (slice_get h.programs turn.program ≡ Some x)
     × Tells begun programs detaches boxes ds count (lines ++ map (line_at turn.due turn.program) (looks_at (memory_of x) (looks_of turn.program (drop from h.shows)))) tellers (common_of ds' mail last)
@@ -111,7 +119,7 @@ pub record StandingFrom (begun : ℕ) (programs : List Program) (detaches : List
   pub wide : length tellers ≡ length programs
   pub as_many : length h.programs ≡ length programs
   pub each : (i : ℕ) (w : Program) (t : Teller) (x : Hosted) → slice_get programs i ≡ Some w → slice_get tellers i ≡ Some t → slice_get h.programs i ≡ Some x → Holds h.shows i w t x
-  pub dues : h.dues ≡ map due_of tellers
+  pub dues : h.dues ≡ dues_at tellers stage
   pub detaches_are : h.detaches ≡ detaches
   pub earlier_is : h.earlier ≡ begun
   pub count : ℕ
@@ -136,16 +144,18 @@ MeetMore program met tellers tellers' =
     (i : ℕ) (t t' : Teller) → slice_get tellers i ≡ Some t → slice_get tellers' i ≡ Some t'
     → (value : ℕ) × (value < 2 ^ 32) × (met_so_far t' ≡ met_with value t ++ (if nat_eq i program then met else []))
 
--- what a new call takes of devices and mailboxes, or of the program's answer lines, or of what it waits for
+-- What a new call takes of devices and mailboxes, or of the program's answer lines, or of what it waits for. (Who is sent a value by it goes on with
+-- that at once.)
 pub record CallTakes (w : Program) (c : Call) (met : List Outcome) (old new : List Counted) (mail mail' : Mail) : Type 0 where
   pub answers : List AnswerLine
   pub left : List AnswerLine
   pub before : Option Await
   pub behind : Option Await
+  pub sent : List Settled
   pub outcome : Outcome
   pub met_is : met ≡ outcome ∷ []
   pub takes : MailAnswers w c (record { lines = answers; amid = amid_of (devices_of old) mail before; faults = faults_of old }) outcome
-      (record { lines = left; amid = amid_of (devices_of new) mail' behind; faults = faults_of new })
+      (record { lines = left; amid = amid_of (devices_of new) (record mail' { settled = sent }) behind; faults = faults_of new })
 
 -- Where the line tells a new call, that met this outcome, and left these devices and mailboxes; nothing else met one, or changed a device.
 pub record TakesCall (programs : List Program) (line : Line) (met : List Outcome) (old new : List Counted) (mail mail' : Mail) : Type 0 where
@@ -176,9 +186,9 @@ TellsNext begun programs detaches boxes ds lines tellers old left new mail h ds'
     MatchOption result (AllTold begun programs detaches boxes ds lines tellers old new (held_of h) h.last ds' mail')
     (λ line. TellsLineFrom begun programs detaches boxes ds lines tellers left new mail (line_of line) (held_of h) h.last ds' mail' h.stage)
 
--- nobody is due, and nobody parked
-abbrev pub NobodyGoesOn : Turns Hosted → Type 0
-NobodyGoesOn h = NoneDue h.dues.items × All (λ (x : Hosted). parked_in x.program ≡ None) h.programs.items
+-- all programs have ended: none is due, and none is parked
+abbrev pub AllOver : Turns Hosted → Type 0
+AllOver h = NoneDue h.dues.items × All (λ (x : Hosted). parked_in x.program ≡ None) h.programs.items
 
 -- Of these programs the one at this place is the first that is parked.
 pub record IsFirstParked (xs : List Hosted) (i : ℕ) : Type 0 where
@@ -189,20 +199,15 @@ pub record IsFirstParked (xs : List Hosted) (i : ℕ) : Type 0 where
 
 -- ---- what an event leads to
 
--- when the program of a turn is due behind this event: not while it waits
-abbrev pub due_behind : (due : ℕ) → Event → Option ℕ
-due_behind due (parked used) = None
-due_behind due e = S.due_behind due e
+-- when the program of a turn is due behind this event: not while it is parked
+abbrev pub due_behind : (is_parked : Bool) → (due : ℕ) → Event → Option ℕ
+due_behind true due e = None
+due_behind false due e = S.due_behind due e
 
 -- where the host then stands
-abbrev pub stage_behind : Turn → Event → Stage
-stage_behind turn (parked used) = Between
-stage_behind turn e = S.stage_behind turn e
-
--- a turn is on its way
-abbrev pub is_on_its_way : Stage → Bool
-is_on_its_way (Telling turn) = true
-is_on_its_way _ = false
+abbrev pub stage_behind : (is_parked : Bool) → Turn → Event → Stage
+stage_behind true turn e = Between
+stage_behind false turn e = S.stage_behind turn e
 
 -- The program can wait at the mailbox of this name, which is there and has no values.
 pub record CanWait (program : ℕ) (name : List ℕ) (mail : Mail) : Type 0 where

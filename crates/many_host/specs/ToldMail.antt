@@ -11,9 +11,8 @@ use Rattle.event_order.specs.declared.shows.Show.{Show}
 use Rattle.mailbox_device.specs.declared.mailbox.Settled.{Settled}
 use Rattle.mailbox_device.specs.Mail.{Mail, WaitsNowhere, empty_mail}
 use Rattle.mail_laws.specs.MailWorld.{ProtocolWorldFrom, parks, pauses, store_behind, told_pause}
-use Rattle.mail_laws.specs.Told.{Amid, AreSent, Await, HasStory, HaveEnded, IsLeast, NoneDue, NotAmong, Teller, Tells, due_of, having_told, parked_in, settle_all, starting, waits_at}
+use Rattle.mail_laws.specs.Told.{Amid, AreSent, Await, HasStory, HaveEnded, HaveMet, IsLeast, NoneDue, NotAmong, Teller, Tells, due_of, having_told, parked_in, settle_all, starting, waits_at}
 use Rattle.pause_host.specs.Mailing.{MailSupply, TakesMail, amid_of}
-use Rattle.many_host.specs.MailHosts.{HaveMet}
 use Rattle.many_host.specs.MailStanding.{Holds, MailStands, MeetMore, common_of, met_so_far}
 use Rattle.many_host.specs.MailTurns.{TellsOnFrom}
 use Rattle.many_host.specs.declared.hosted.Hosted.{Hosted}
@@ -121,12 +120,6 @@ abbrev pub MailToldBegins : Type 0
 MailToldBegins =
     (begun : ℕ) (programs : List Program) (detaches : List Detach) (boxes : List (List ℕ)) (ds es : List Device) (mail : Mail) (count last : ℕ) (lines : List Line) (tellers : List Teller)
     → Tells begun programs detaches boxes ds count lines tellers (common_of es mail last) → AllZip HasStory programs tellers → BeginsMailWorld begun programs detaches boxes ds lines tellers
-
--- so do those with the beginning of the next turn,
-abbrev pub MailBegunBegins : Type 0
-MailBegunBegins =
-    (begun : ℕ) (programs : List Program) (detaches : List Detach) (boxes : List (List ℕ)) (ds : List Device) (count i due : ℕ) (lines : List Line) (tellers : List Teller) (now : Amid)
-    → TellsOnFrom begun programs detaches boxes ds count i due lines tellers now → AllZip HasStory programs tellers → BeginsMailWorld begun programs detaches boxes ds lines tellers
 
 -- and once all programs have ended, they are a whole run, whose calls met what the programs' calls did.
 abbrev pub MailToldWhole : Type 0

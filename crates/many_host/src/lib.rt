@@ -45,6 +45,6 @@ pub use event_order::Show;
 pub use host::Host;
 pub use laws::told_lines_begin_a_world;
 pub use pause_host::{Plan, Program};
-pub use told_mail::notes_with_mail_are_told;
+pub use told_mail::{held_programs_have_stories, notes_with_mail_are_told, told_events_are_of_a_world};
 pub use told_notes::{notes_are_told_in_turn, told_notes_are_of_a_world};
 pub use told_turns::{all_told_is_a_world, told_turns_are_a_world};

@@ -7,11 +7,11 @@ use Rattle.wa_model.specs.Machine.{Turn, stops, goes, Ran, after, still, pay, ru
 use Rattle.wa_model.specs.Store.{Store}
 use Rattle.wa_model.specs.Plan.{Outcome, Plan}
 use Rattle.wa_model.specs.Instantiation.{opening}
-use Rattle.wa_model.specs.Blocking.{Note, all_left, no_store}
+use Rattle.wa_model.specs.Blocking.{Left, Note, all_left, no_store}
 use Rattle.wa_model.specs.Protocol.{Held, aside, busy, calling, entering, exports_of, free, held_begun, over, protocol, starting}
 use Rattle.run_theory.proofs.Runs.{mapped}
 use Rattle.world_laws.proofs.Counting.{TurnTells, begun_tells, left_count, turn_tells}
-use Rattle.world_laws.proofs.Tails.{AtCall, Calls, Longer, SameCall, begun_tailed, tailed, turn_longer}
+use Rattle.world_laws.proofs.Tails.{AtCall, Calls, Longer, SameCall, begun_tailed, tailed, tailed_left, turn_longer}
 use Rattle.strand_laws.proofs.ByTurns.{standing_there}
 use Rattle.strand_laws.proofs.StrandTails.{Agrees, Counts, at_of, begun_counts, calls_by, calls_own, held_waking, keeps_woven, loom, standing_tailed, stands_at, starts_tailed}
 use Rattle.strand_laws.proofs.StrandTails.{tail_standing, tailed_from, tailed_woven, tells_counts, woven_tailed}
@@ -40,6 +40,18 @@ told_first {S} loom again st i due es s ts e = by_case e
     by_case (Some (paused ticks used)) = ((again (loom.store s) (put i (due + ticks) (Some s) ts)).events, refl)
     by_case (Some (ended how)) = ((if ends_strand st how then again (loom.store s) (put i due None ts) else still (finished (put i due None ts))).events, refl)
 
+left_nil : (l : Left) → tailed_left [] l ≡ l
+left_nil l = ap (λ (os : List Outcome). record { number = l.number; entries = l.entries; outcomes = os }) (append-nil l.outcomes)
+
+tailed_nil : (h : Held) → tailed [] h ≡ h
+tailed_nil (free s l) = ap (free s) (left_nil l)
+tailed_nil (starting f s l) = ap (starting f s) (left_nil l)
+tailed_nil (busy ph c l) = ap (busy ph c) (left_nil l)
+tailed_nil (calling ph s f args th l) = ap (calling ph s f args th) (left_nil l)
+tailed_nil (aside ph c th l) = ap (aside ph c th) (left_nil l)
+tailed_nil (entering ph e s l) = ap (entering ph e s) (left_nil l)
+tailed_nil (over s) = refl
+
 abbrev at_note : ℕ → Note → Told
 at_note i x = record { strand = i; note = x }
 
@@ -55,6 +67,7 @@ module _ (g : StrandProgram) (tails : ℕ → List Outcome) (total : ℕ → ℕ
     pub there : Note
     pub more : List Told
     pub same : SameCall here there
+    pub some : tails strand ≡ [] → ⊥
     pub count : calls_by strand (done ++ before) ≡ total strand
     pub first : r.events ≡ before ++ record { strand = strand; note = here } ∷ []
     pub second : r'.events ≡ before ++ record { strand = strand; note = there } ∷ more
@@ -72,6 +85,7 @@ module _ (g : StrandProgram) (tails : ℕ → List Outcome) (total : ℕ → ℕ
     there = f.there;
     more = f.more;
     same = f.same;
+    some = f.some;
     count = ap (calls_by f.strand) (sym (append_assoc done es f.before)) ∙ f.count;
     first = ap (λ (xs : List Told). es ++ xs) f.first ∙ sym (append_assoc es f.before (at_note f.strand f.here ∷ []));
     second = ap (λ (xs : List Told). es ++ xs) f.second ∙ sym (append_assoc es f.before (at_note f.strand f.there ∷ f.more));
@@ -141,8 +155,8 @@ module _ (g : StrandProgram) (tails : ℕ → List Outcome) (total : ℕ → ℕ
         by_cost false = inl refl
 
     one_calls : (st : Bool) (k j : ℕ) (es fs : List Note) (u' u : Held) (y : Note) → protocol g.source (exports_of g.source) (plan_of g (strand_at g i)) r.at ≡ goes j fs u → AtCall (left_count r.at) y fs u
-        → Calls (tails i) j y (goes k es u') → Goal st (goes k es u') (goes j fs u)
-    one_calls st k j es fs u' u y e h c =
+        → Calls (tails i) j y (goes k es u') → (tails i ≡ [] → ⊥) → Goal st (goes k es u') (goes j fs u)
+    one_calls st k j es fs u' u y e h c some =
         subst (λ m. GoesOn done (pay (on count) n w' (goes m r2.events r2.last)) (pay (on count) n w (goes j (woven (loom g tails) st i r.due fs u w.threads).events (woven (loom g tails) st i r.due fs u w.threads).last)))
         (sym c.0)
         (subst (λ (x : Ran (Woven Held) Told). GoesOn done (pay (on count) n w' (goes j r2.events r2.last)) (pay (on count) n w (goes j x.events x.last))) (sym short) (by_cost (nat_lt j n)))
@@ -175,28 +189,40 @@ module _ (g : StrandProgram) (tails : ℕ → List Outcome) (total : ℕ → ℕ
           there = c.1;
           more = (told_by i c.2 ++ begins.0) ++ (on count (n - suc j) r2.last).events;
           same = c.4;
+          some = some;
           count = ap (calls_by i) (append-nil done) ∙ (let z = h.0 in let q : calls_by i done ≡ total i = omega (arith, left, z) in q);
           first = ap (λ (q : Ran (Woven Held) Told). at_note i y ∷ q.events) (over_there count (n - suc j) i r.due h.2 w.threads lt);
           second = ap (λ (xs : List Told). xs ++ (on count (n - suc j) r2.last).events) split;
         })
         by_cost false = inl refl
 
-    by_turn : (st : Bool) (o' o : Turn Held Note) → protocol g.source (exports_of g.source) (plan_of g (strand_at g i)) r.at ≡ o
+    by_turn : (st : Bool) (o' o : Turn Held Note) → protocol g.source (exports_of g.source) (plan_of g (strand_at g i)) (tailed (tails i) r.at) ≡ o' → protocol g.source (exports_of g.source) (plan_of g (strand_at g i)) r.at ≡ o
         → Longer g.source (exports_of g.source) (plan_of g (strand_at g i)) (tails i) (left_count r.at) o' o → TurnTells (left_count r.at) o → Goal st o' o
-    by_turn st stops stops e h tells = inl refl
-    by_turn st stops (goes k es u) e h tells = absurd h
-    by_turn st (goes k es u) stops e h tells = absurd h
-    by_turn st (goes k es u') (goes j fs u) e (inl h) tells =
+    by_turn st stops stops e' e h tells = inl refl
+    by_turn st stops (goes k es u) e' e h tells = absurd h
+    by_turn st (goes k es u) stops e' e h tells = absurd h
+    by_turn st (goes k es u') (goes j fs u) e' e (inl h) tells =
         subst (λ (o' : Turn Held Note). Goal st o' (goes j fs u))
         (ap (λ m. goes m fs (tailed (tails i) u)) (sym h.0) ∙ ap (λ (xs : List Note). goes k xs (tailed (tails i) u)) (sym h.1) ∙ ap (goes k es) (sym h.2))
         (both_move st j fs u e tells)
-    by_turn st (goes k es u') (goes j fs u) e (inr h) tells = one_calls st k j es fs u' u h.0 e h.1 h.2
+    by_turn st (goes k es u') (goes j fs u) e' e (inr h) tells = by_tail (tails i) refl
+      where
+        cons_nil : {A : Type 0} (o : Outcome) (os : List Outcome) → o ∷ os ≡ [] → A
+        cons_nil o os q = let no_way : ⊥ = cc in absurd no_way
+
+        by_tail : (os : List Outcome) → tails i ≡ os → Goal st (goes k es u') (goes j fs u)
+        by_tail [] z =
+            subst (λ (o' : Turn Held Note). Goal st o' (goes j fs u))
+            (ap (goes j fs) (ap (λ (os : List Outcome). tailed os u) z ∙ tailed_nil u)
+            ∙ sym e ∙ ap (protocol g.source (exports_of g.source) (plan_of g (strand_at g i))) (sym (ap (λ (os : List Outcome). tailed os r.at) z ∙ tailed_nil r.at)) ∙ e')
+            (both_move st j fs u e tells)
+        by_tail (x ∷ os) z = one_calls st k j es fs u' u h.0 e h.1 h.2 (λ q. cons_nil x os (sym z ∙ q))
 
     pub one_on : GoesOn done (pay (on count) n w' (move_of (loom g tails) i ts' (tail_standing g tails i (Some r)))) (pay (on count) n w (move_of (loom g tails) i w.threads (Some r)))
     one_on =
         subst (λ b. GoesOn done (pay (on count) n w' (moved (loom g tails) b i r.due ts' (protocol g.source (exports_of g.source) (plan_of g (strand_at g i)) (tailed (tails i) r.at))))
         (pay (on count) n w (moved (loom g tails) (held_starts r.at) i r.due w.threads (protocol g.source (exports_of g.source) (plan_of g (strand_at g i)) r.at)))) (sym (starts_tailed g tails (tails i) r.at))
-        (by_turn (held_starts r.at) (protocol g.source (exports_of g.source) (plan_of g (strand_at g i)) (tailed (tails i) r.at)) (protocol g.source (exports_of g.source) (plan_of g (strand_at g i)) r.at) refl
+        (by_turn (held_starts r.at) (protocol g.source (exports_of g.source) (plan_of g (strand_at g i)) (tailed (tails i) r.at)) (protocol g.source (exports_of g.source) (plan_of g (strand_at g i)) r.at) refl refl
         (turn_longer g.source (exports_of g.source) (plan_of g (strand_at g i)) (tails i) r.at) (turn_tells g.source (exports_of g.source) (plan_of g (strand_at g i)) r.at))
 
   run_on : (count n : ℕ) (w : Woven Held) (done : List Told) → Agrees total done w.threads → GoesOn done (on count n (tailed_woven g tails w)) (on count n w)

@@ -47,7 +47,7 @@ taken_count ts i (os ∷ oss) h zero j e lt =
 taken_count ts i (os ∷ oss) h (suc k) j e lt = taken_count ts (suc i) oss h.1 k j (omega (arith, e)) (omega (arith, lt))
 
 -- behind what strands tell, wherever one stands
-same_behind : (g : StrandsInWorld) (tails : ℕ → List Outcome) (steps i : ℕ) (o : Option (Ready Held)) → strand_unless_over steps (tail_standing g.program tails i o) ≡ strand_unless_over steps o
+pub same_behind : (g : StrandsInWorld) (tails : ℕ → List Outcome) (steps i : ℕ) (o : Option (Ready Held)) → strand_unless_over steps (tail_standing g.program tails i o) ≡ strand_unless_over steps o
 same_behind g tails steps i None = refl
 same_behind g tails steps i (Some r) = ap (λ (s : Store). record { strand = r.strand; note = note (ended (StepsSpent steps)) s } ∷ []) (store_tailed g.program tails (tails i) r.at)
 

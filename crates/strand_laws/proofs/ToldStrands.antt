@@ -50,7 +50,7 @@ zip_unset R (a ∷ xs) [] p x y z h e f r = absurd h
 zip_unset R (a ∷ xs) (w ∷ ys) zero x y z h e f r = (subst (λ b. R b w) (sym (the_same a x e)) (subst (R x) (sym (the_same w y f)) r), h.1)
 zip_unset R (a ∷ xs) (w ∷ ys) (suc p) x y z h e f r = (h.0, zip_unset R xs ys p x y z h.1 e f r)
 
-mapped_get : {A B : Type 0} (f : A → B) (xs : List A) (p : ℕ) (x : A) → slice_get xs p ≡ Some x → slice_get (map f xs) p ≡ Some (f x)
+pub mapped_get : {A B : Type 0} (f : A → B) (xs : List A) (p : ℕ) (x : A) → slice_get xs p ≡ Some x → slice_get (map f xs) p ≡ Some (f x)
 mapped_get f [] p x e = none_is x e
 mapped_get f (y ∷ xs) zero x e = ap (λ z. Some (f z)) (the_same y x e)
 mapped_get f (y ∷ xs) (suc p) x e = mapped_get f xs p x e
@@ -62,7 +62,7 @@ mapped_back f (x ∷ xs) (suc p) y e = mapped_back f xs p y e
 
 -- ---- what calls meet with more outcomes behind
 
-calls_longer : (w v : Program) → SameCalls w v → (more : List Outcome) (xs : List Note) (os : List Outcome) (lines : List AnswerLine) (ds : List Device) (os' : List Outcome)
+pub calls_longer : (w v : Program) → SameCalls w v → (more : List Outcome) (xs : List Note) (os : List Outcome) (lines : List AnswerLine) (ds : List Device) (os' : List Outcome)
     (lines' : List AnswerLine) (ds' : List Device) → CallsMeet w xs os lines ds os' lines' ds' → CallsMeet v xs (os ++ more) lines ds (os' ++ more) lines' ds'
 calls_longer w v same more [] os lines ds os' lines' ds' h = (ap (λ (zs : List Outcome). zs ++ more) h.0, h.1, h.2)
 calls_longer w v same more (x ∷ xs) os lines ds os' lines' ds' h = by (λ o l d k. calls_longer w v same more xs o l d os' lines' ds' k) (call_in x.event) h
@@ -129,20 +129,20 @@ pub record Goes (x : Whole) (t : ProgramTeller) : Type 0 where
 
 -- ---- places
 
-row_get : (x : Whole) (rest : List Told) (i k j : ℕ) (ss : List StrandTeller) (s : StrandTeller) → j ≡ i + k → slice_get ss k ≡ Some s → slice_get (row x rest i ss) k ≡ Some (actor_now x rest j s)
+pub row_get : (x : Whole) (rest : List Told) (i k j : ℕ) (ss : List StrandTeller) (s : StrandTeller) → j ≡ i + k → slice_get ss k ≡ Some s → slice_get (row x rest i ss) k ≡ Some (actor_now x rest j s)
 row_get x rest i k j [] s e h = none_is s h
 row_get x rest i zero j (t ∷ ss) s e h =
     let z : i ≡ j = omega (arith, e) in ap (λ n. Some (actor_now x rest n t)) z ∙ ap (λ u. Some (actor_now x rest j u)) (the_same t s h)
 row_get x rest i (suc k) j (t ∷ ss) s e h = row_get x rest (suc i) k j ss s (omega (arith, e)) h
 
-row_back : (x : Whole) (rest : List Told) (i k j : ℕ) (ss : List StrandTeller) (a : Actor) → j ≡ i + k → slice_get (row x rest i ss) k ≡ Some a
+pub row_back : (x : Whole) (rest : List Told) (i k j : ℕ) (ss : List StrandTeller) (a : Actor) → j ≡ i + k → slice_get (row x rest i ss) k ≡ Some a
     → (s : StrandTeller) × (slice_get ss k ≡ Some s) × (actor_now x rest j s ≡ a)
 row_back x rest i k j [] a e h = none_is a h
 row_back x rest i zero j (t ∷ ss) a e h =
     let z : j ≡ i = omega (arith, e) in (t, refl, ap (λ n. actor_now x rest n t) z ∙ the_same (actor_now x rest i t) a h)
 row_back x rest i (suc k) j (t ∷ ss) a e h = row_back x rest (suc i) k j ss a (omega (arith, e)) h
 
-row_length : (x : Whole) (rest : List Told) (i : ℕ) (ss : List StrandTeller) → length (row x rest i ss) ≡ length ss
+pub row_length : (x : Whole) (rest : List Told) (i : ℕ) (ss : List StrandTeller) → length (row x rest i ss) ≡ length ss
 row_length x rest i [] = refl
 row_length x rest i (s ∷ ss) = ap suc (row_length x rest (suc i) ss)
 
@@ -164,13 +164,13 @@ row_set x rest rest' i (suc k) n (t ∷ ss) s e h =
     (h i (λ q. let no_way : ⊥ = omega (arith, e, q) in no_way))
     ∙ ap (λ (acts : List Actor). actor_now x rest i t ∷ acts) (row_set x rest rest' (suc i) k n ss s (omega (arith, e)) h)
 
-rows_get : (xs : List Whole) (ts : List ProgramTeller) (p : ℕ) (x : Whole) (t : ProgramTeller) → slice_get xs p ≡ Some x → slice_get ts p ≡ Some t → slice_get (rows xs ts) p ≡ Some (row_of x t)
+pub rows_get : (xs : List Whole) (ts : List ProgramTeller) (p : ℕ) (x : Whole) (t : ProgramTeller) → slice_get xs p ≡ Some x → slice_get ts p ≡ Some t → slice_get (rows xs ts) p ≡ Some (row_of x t)
 rows_get [] ts p x t e f = none_is x e
 rows_get (y ∷ xs) [] p x t e f = none_is t f
 rows_get (y ∷ xs) (u ∷ ts) zero x t e f = ap (λ z. Some (row_of z u)) (the_same y x e) ∙ ap (λ z. Some (row_of x z)) (the_same u t f)
 rows_get (y ∷ xs) (u ∷ ts) (suc p) x t e f = rows_get xs ts p x t e f
 
-rows_back : (xs : List Whole) (ts : List ProgramTeller) (p : ℕ) (b : List Actor) → slice_get (rows xs ts) p ≡ Some b
+pub rows_back : (xs : List Whole) (ts : List ProgramTeller) (p : ℕ) (b : List Actor) → slice_get (rows xs ts) p ≡ Some b
     → (x : Whole) × (t : ProgramTeller) × (slice_get xs p ≡ Some x) × (slice_get ts p ≡ Some t) × (row_of x t ≡ b)
 rows_back [] ts p b e = none_is b e
 rows_back (y ∷ xs) [] p b e = none_is b e

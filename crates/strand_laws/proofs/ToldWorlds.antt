@@ -24,11 +24,11 @@ use Rattle.strand_laws.specs.Woven.{Told}
 -- ---- the start
 
 -- A program's strands tell this in the protocol world.
-record TellsAll (x : Whole) : Type 0 where
-  some : 0 < length x.g.program.strands
-  wide : length x.outcomes ≡ length x.g.program.strands
-  pokes : PokesApart x.g.program.strands 0 x.outcomes
-  story : HeldStrands x.g x.outcomes x.all
+pub record TellsAll (x : Whole) : Type 0 where
+  pub some : 0 < length x.g.program.strands
+  pub wide : length x.outcomes ≡ length x.g.program.strands
+  pub pokes : PokesApart x.g.program.strands 0 x.outcomes
+  pub story : HeldStrands x.g x.outcomes x.all
 
 starting_row : (x : Whole) (rest : List Told) (i : ℕ) (ss : List Strand) (oss : List (List Outcome)) → length oss ≡ length ss
     → ((m j : ℕ) → j ≡ i + m → outcomes_at x.outcomes j ≡ outcomes_at oss m) → row x rest i (starting_strands x.g i ss) ≡ strand_actors x.g rest i oss
@@ -41,15 +41,15 @@ starting_row x rest i (s ∷ ss) (os ∷ oss) e h =
     ∙ ap (λ (acts : List Actor). record { due = 0; notes = notes_of i rest; outcomes = os; answers = answers_of x.g i } ∷ acts)
     (starting_row x rest (suc i) ss oss (omega (arith, e)) (λ m j z. h (suc m) j (omega (arith, z))))
 
-starting_dues : (g : StrandsInWorld) (i : ℕ) (ss : List Strand) → dues_of (starting_strands g i ss) ≡ all_due (length ss)
+pub starting_dues : (g : StrandsInWorld) (i : ℕ) (ss : List Strand) → dues_of (starting_strands g i ss) ≡ all_due (length ss)
 starting_dues g i [] = refl
 starting_dues g i (s ∷ ss) = ap (λ (v : Dues). record { due = 0; at = Some tt } ∷ v) (starting_dues g (suc i) ss)
 
-starting_wide : (g : StrandsInWorld) (i : ℕ) (ss : List Strand) → length (starting_strands g i ss) ≡ length ss
+pub starting_wide : (g : StrandsInWorld) (i : ℕ) (ss : List Strand) → length (starting_strands g i ss) ≡ length ss
 starting_wide g i [] = refl
 starting_wide g i (s ∷ ss) = ap suc (starting_wide g (suc i) ss)
 
-abbrev Each : List Whole → Type 0
+abbrev pub Each : List Whole → Type 0
 Each [] = Unit {0}
 Each (x ∷ xs) = TellsAll x × Each xs
 
@@ -205,7 +205,7 @@ wide_start : (gs : List StrandsInWorld) → AllZip SameWide gs (map starting gs)
 wide_start [] = tt
 wide_start (g ∷ gs) = (starting_wide g 0 g.program.strands, wide_start gs)
 
-wide_told : (gs : List StrandsInWorld) (detaches : List Detach) (ds : List Device) (count : ℕ) (lines : List StrandLine) (tellers : List ProgramTeller) (ds' : List Device)
+pub wide_told : (gs : List StrandsInWorld) (detaches : List Detach) (ds : List Device) (count : ℕ) (lines : List StrandLine) (tellers : List ProgramTeller) (ds' : List Device)
     → TellsStrands gs detaches ds count lines tellers ds' → AllZip SameWide gs tellers
 wide_told gs detaches ds zero lines tellers ds' h = subst (AllZip SameWide gs) (sym h.1) (wide_start gs)
 wide_told gs detaches ds (suc count) lines tellers ds' h =
@@ -233,13 +233,13 @@ met_first (t ∷ ss) (os ∷ oss) zero s e = (os, ap (λ (u : StrandTeller). u.m
 met_first (t ∷ ss) (os ∷ oss) (suc k) s e = met_first ss oss k s e
 
 -- The wholes of programs, from their stories.
-record Wholes (gs : List StrandsInWorld) (ts : List ProgramTeller) : Type 0 where
-  all : List Whole
-  worlds : worlds_of all ≡ gs
-  each : Each all
-  fits : AllZip Fits all ts
+pub record Wholes (gs : List StrandsInWorld) (ts : List ProgramTeller) : Type 0 where
+  pub all : List Whole
+  pub worlds : worlds_of all ≡ gs
+  pub each : Each all
+  pub fits : AllZip Fits all ts
 
-wholes : (gs : List StrandsInWorld) (ts : List ProgramTeller) → HaveStrands gs → AllZip SameWide gs ts → AllZip HasStory gs ts → Wholes gs ts
+pub wholes : (gs : List StrandsInWorld) (ts : List ProgramTeller) → HaveStrands gs → AllZip SameWide gs ts → AllZip HasStory gs ts → Wholes gs ts
 wholes [] [] some wide h = record { all = []; worlds = refl; each = tt; fits = tt }
 wholes [] (t ∷ ts) some wide h = absurd h
 wholes (g ∷ gs) [] some wide h = absurd h

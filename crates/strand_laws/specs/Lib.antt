@@ -1,6 +1,7 @@
 pub mod EmittedStrands
 pub mod Example
 pub mod OneStrand
+pub mod StrandNotes
 pub mod StrandOriginals
 pub mod StrandWorld
 pub mod Strands

@@ -24,12 +24,15 @@
 //! the lines of their world.
 //!
 //! `specs/ToldStrands.antt` has worlds of strands as they are told, turn by turn, when no strand's story is known beforehand: `proofs/ToldStrands.antt`
-//! has that a turn that is told is an event of the world, `proofs/ToldWorlds.antt` that all are.
+//! has that a turn that is told is an event of the world, `proofs/ToldWorlds.antt` that all are, and `proofs/ToldGoesOn.antt` that what was told goes on
+//! to an end, by `proofs/NextTurn.antt`, one turn whose calls meet answer lines and devices that fail.
+//! `specs/StrandNotes.antt` has the same note by note.
 #![tactic(auto)]
 
 mod emitted_strands;
 mod one_strand;
 mod original_worlds;
+mod told_notes;
 mod told_worlds;
 mod world_strands;
 
@@ -40,7 +43,12 @@ pub use original_worlds::{
     emitted_strands_stand_in, emitted_world_has_its_lines, strand_stories_are_of_met,
     strand_stories_are_of_originals, strand_worlds_are_of_originals, three_strands_end,
 };
-pub use told_worlds::{all_told_strands_are_a_world, told_strands_are_a_world};
+pub use told_notes::{
+    begun_strands_begin, nothing_is_told, told_strands_begin, turn_begins, turn_ends, turn_goes_on,
+};
+pub use told_worlds::{
+    all_told_strands_are_a_world, strand_worlds_end, told_strands_are_a_world, told_strands_go_on,
+};
 pub use world_strands::{
     held_programs_tell_one_run, narrow_area_ends_the_program, strands_go_by_turns,
     strands_share_a_store, stretches_are_woven, strung_programs_tell_one_run, trap_ends_its_strand,

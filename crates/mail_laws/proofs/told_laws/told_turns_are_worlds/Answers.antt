@@ -1,4 +1,4 @@
-use Rattle.mail_laws.proofs.ToldAreWorlds.{all_told_is_world, told_is_world}
+use Rattle.mail_laws.proofs.Prepared.{all_told_is_world, told_is_world}
 use Rattle.mail_laws.proofs.told_laws.told_turns_are_worlds.Goals as goal
 
 pub returns-clause-played : goal.returns-clause-played

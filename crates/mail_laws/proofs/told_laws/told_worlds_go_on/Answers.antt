@@ -1,4 +1,4 @@
-use Rattle.mail_laws.proofs.PlayedAreTold.{told_goes_on}
+use Rattle.mail_laws.proofs.GoneOn.{told_goes_on}
 use Rattle.mail_laws.proofs.told_laws.told_worlds_go_on.Goals as goal
 
 pub returns : goal.returns

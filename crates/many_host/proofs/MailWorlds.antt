@@ -1,0 +1,45 @@
+-- What a host with mailboxes has told, as a world's run.
+use Rattle.std.proofs.Common.{arith, ◌≡◌, ℕ, List, Some, slice_get, sym, subst}
+use Rattle.std.specs.List.{AllZip}
+use Rattle.std.proofs.lemmas.Option.{slice_get_within}
+use Rattle.wa_model.specs.declared.answers.Detach.{Detach}
+use Rattle.wa_model.specs.Outside.{Line}
+use Rattle.world_model.specs.World.{Device, Program}
+use Rattle.world_laws.proofs.Places.{item, zipped}
+use Rattle.event_order.specs.Left.{Counted}
+use Rattle.mailbox_device.specs.Mail.{Mail}
+use Rattle.mail_laws.specs.MailWorld.{ProtocolWorldFrom}
+use Rattle.mail_laws.specs.Told.{HasStory, HaveEnded, HaveMet, Teller}
+use Rattle.mail_laws.proofs.GoneOn.{told_goes_on}
+use Rattle.mail_laws.proofs.ToldAreWorlds.{all_told_is_world}
+use Rattle.many_host.specs.MailStanding.{AllTold, StandingFrom, common_of}
+use Rattle.many_host.specs.Standing.{Held}
+use Rattle.many_host.specs.ToldMail.{MailToldBegins, MailToldWhole}
+use Rattle.many_host.specs.declared.hosted.Hosted.{Hosted}
+use Rattle.many_host.specs.declared.turn_taking.Stage.{Stage}
+use Rattle.many_host.proofs.MailStories.{held_has_story}
+
+pub mail_told_begins : MailToldBegins
+mail_told_begins begun programs detaches boxes ds es mail count last lines tellers tells all = told_goes_on begun programs detaches boxes ds count lines tellers (common_of es mail last) tells all
+
+pub mail_told_whole : MailToldWhole
+mail_told_whole begun programs detaches boxes ds es mail count last lines tellers tells all over =
+    all_told_is_world begun programs detaches boxes ds count lines tellers (common_of es mail last) tells all over
+
+module _ (begun : ℕ) (programs : List Program) (detaches : List Detach) (boxes : List (List ℕ)) (ds : List Device) (lines : List Line) (h : Held Hosted) (last : ℕ) (ds' : List Device) (mail : Mail) where
+  -- what each program of a host has told begins its story
+  pub stories_held : (stage : Stage) (s : StandingFrom begun programs detaches boxes ds lines h last ds' mail stage) → AllZip HasStory programs s.tellers
+  stories_held stage s = zipped HasStory programs s.tellers s.wide each
+    where
+      each : (i : ℕ) (w : Program) (t : Teller) → slice_get programs i ≡ Some w → slice_get s.tellers i ≡ Some t → HasStory w t
+      each i w t ew et =
+          let x = item h.programs i (omega (arith, slice_get_within programs i w ew, s.as_many)) in
+          held_has_story h.shows i w t x.0 (s.each i w t x.0 ew et x.1)
+
+  -- once all have ended
+  pub whole_told : (tellers : List Teller) (old new : List Counted) → AllTold begun programs detaches boxes ds lines tellers old new h last ds' mail
+      → (world : ProtocolWorldFrom begun programs detaches boxes ds lines ds') × HaveMet tellers world.actors × (new ≡ old)
+  whole_told tellers old new a =
+      let over : HaveEnded a.stands.tellers = subst HaveEnded (sym a.tellers_are) a.have_ended in
+      let run = mail_told_whole begun programs detaches boxes ds ds' mail a.stands.count last lines a.stands.tellers a.stands.at.0 (stories_held _ a.stands) over in
+      (run.0, subst (λ (l : List Teller). HaveMet l run.0.actors) a.tellers_are run.1, a.kept)
