@@ -231,7 +231,7 @@ module _ (begun : ℕ) (programs : List Program) (detaches : List Detach) (boxes
         let sum = told.begun_is in
         inl (omega (arith, ended, is, sum))
     by (Telling turn) at is =
-        let ended = events_on_told begun programs detaches boxes ds at.0 turn.program turn.due lines told.tellers _ at.4 host_calm in
+        let ended = events_on_told begun programs detaches boxes ds at.0 turn.program turn.due lines told.tellers _ at.6 host_calm in
         let one_more = at.1 in
         let sum = told.begun_is in
         inl (omega (arith, ended, one_more, is, sum))

@@ -18,12 +18,12 @@ use Rattle.world_laws.proofs.Places.{item}
 use Rattle.event_order.specs.Left.{Counted}
 use Rattle.mailbox_device.specs.Mail.{Mail, names_of}
 use Rattle.mail_laws.specs.MailWorld.{Actor, ProtocolWorld, StartsHeld}
-use Rattle.mail_laws.specs.Told.{Await, Teller, pending, starting}
+use Rattle.mail_laws.specs.Told.{Await, HaveMet, Teller, pending, starting}
 use Rattle.many_host.specs.Calls.{AreLeft, BegunBy, devices_of, left_at}
 use Rattle.many_host.specs.declared.host.Host.{Host}
 use Rattle.many_host.specs.declared.turn_taking.Stage.{Stage}
 use Rattle.many_host.specs.declared.turn_taking.Stage.TheVariants as S
-use Rattle.many_host.specs.MailHosts.{HaveMet, HostTellsFrom}
+use Rattle.many_host.specs.MailHosts.{HostTellsFrom}
 use Rattle.many_host.specs.MailStanding.{MeetMore, StandsAtFrom, TellsLineFrom, met_so_far, met_with}
 use Rattle.many_host.specs.Standing.{LooksOut, held_of}
 use Rattle.many_host.specs.ToldMail.{BeginsMailWorld}
@@ -131,7 +131,7 @@ module _ (parts : List Part) (detaches : List Detach) (boxes : List (List ℕ)) 
     where
       by : (stage : Stage) → StandsAtFrom 0 programs detaches boxes ds t.host.count t.lines t.host.tellers (held_of h.turns) h.turns.last (devices_of now) mail stage → names_of mail.boxes ≡ boxes
       by S.Between at = at.1.names_are
-      by (S.Telling turn) at = at.4.stands.names_are
+      by (S.Telling turn) at = at.6.stands.names_are
       by (S.Showing turn from) at = at.3.names_are
 
   as_wide : (h : Host) (now : List Counted) (mail : Mail) (t : HasMailTold h now mail) (actors : List Actor) → AllZip StartsHeld programs actors → length actors ≡ length t.host.tellers

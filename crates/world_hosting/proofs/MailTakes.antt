@@ -77,17 +77,17 @@ module _ (boxes : List (List ℕ)) (w : Program) (c : Call) (met : List Outcome)
       in_boxes name = ap (λ (ns : List (List ℕ)). is_mailbox ns name) (sym named) ∙ found_name name mail.boxes
 
       by_found : (name : List ℕ) → bound_to w c.import ≡ Some name → h.left ≡ h.answers → (found : Option Box) → find (is_box name) mail.boxes ≡ found
-          → AsksNamed c.import (name_at (base_names w.source) c.import) name c.args found (amid_of (devices_of old) mail h.before) h.outcome (amid_of (devices_of new) mail' h.behind) → Said
+          → AsksNamed c.import (name_at (base_names w.source) c.import) name c.args found (amid_of (devices_of old) mail h.before) h.outcome (amid_of (devices_of new) (record mail' { settled = h.sent }) h.behind) → Said
       by_found name is same None f g =
           of_others (ap (asks_mailbox boxes) is ∙ in_boxes name ∙ ap (λ (b : Option Box). is_some b) f)
           (subst (λ (b : Option (List ℕ)). MeetsBound w.source c.import c.args b h.answers (devices_of old) h.outcome h.left (devices_of new)) (sym is)
           (subst (λ (ds : List Device). MeetsBound w.source c.import c.args (Some name) h.answers (devices_of old) h.outcome h.left ds) (sym (ap (λ (z : Amid). z.devices) g.2)) (g.1, same)))
       by_found name is same (Some b) f g =
-          let r = asked_box c.import name c.args b (amid_of (devices_of old) mail h.before) h.outcome (amid_of (devices_of new) mail' h.behind) g in
+          let r = asked_box c.import name c.args b (amid_of (devices_of old) mail h.before) h.outcome (amid_of (devices_of new) (record mail' { settled = h.sent }) h.behind) g in
           of_mailbox (ap (asks_mailbox boxes) is ∙ in_boxes name ∙ ap (λ (b : Option Box). is_some b) f) r.0 r.1
 
       by_bound : (b : Option (List ℕ)) → bound_to w c.import ≡ b
-          → AsksBound w.source c.import c.args b h.answers (amid_of (devices_of old) mail h.before) h.outcome h.left (amid_of (devices_of new) mail' h.behind) → Said
+          → AsksBound w.source c.import c.args b h.answers (amid_of (devices_of old) mail h.before) h.outcome h.left (amid_of (devices_of new) (record mail' { settled = h.sent }) h.behind) → Said
       by_bound None is g =
           of_others (ap (asks_mailbox boxes) is)
           (subst (λ (b : Option (List ℕ)). MeetsBound w.source c.import c.args b h.answers (devices_of old) h.outcome h.left (devices_of new)) (sym is) (g.0, ap (λ (z : Amid). z.devices) g.1))
