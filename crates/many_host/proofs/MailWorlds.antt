@@ -1,8 +1,10 @@
 -- What a host with mailboxes has told, as a world's run.
-use Rattle.std.proofs.Common.{arith, ◌≡◌, ℕ, List, Some, slice_get, sym, subst}
+use Rattle.std.proofs.Common.{arith, ◌≡◌, ℕ, List, Option, Some, None, slice_get, sym, subst}
+use Rattle.std.specs.Prelude.{MatchOption}
 use Rattle.std.specs.List.{AllZip}
 use Rattle.std.proofs.lemmas.Option.{slice_get_within}
 use Rattle.wa_model.specs.declared.answers.Detach.{Detach}
+use Rattle.wa_model.specs.declared.events.Line.{Line as LineValue}
 use Rattle.wa_model.specs.Outside.{Line}
 use Rattle.world_model.specs.World.{Device, Program}
 use Rattle.world_laws.proofs.Places.{item, zipped}
@@ -10,13 +12,16 @@ use Rattle.event_order.specs.Left.{Counted}
 use Rattle.mailbox_device.specs.Mail.{Mail}
 use Rattle.mail_laws.specs.MailWorld.{ProtocolWorldFrom}
 use Rattle.mail_laws.specs.Told.{HasStory, HaveEnded, HaveMet, Teller}
-use Rattle.mail_laws.proofs.GoneOn.{told_goes_on}
+use Rattle.mail_laws.proofs.PlayedAreTold.{told_goes_on}
 use Rattle.mail_laws.proofs.ToldAreWorlds.{all_told_is_world}
-use Rattle.many_host.specs.MailStanding.{AllTold, StandingFrom, common_of}
-use Rattle.many_host.specs.Standing.{Held}
+use Rattle.many_host.specs.MailHosts.{HostTellsNext}
+use Rattle.many_host.specs.MailStanding.{AllTold, StandingFrom, TellsNext, common_of}
+use Rattle.many_host.specs.Standing.{Held, held_of}
 use Rattle.many_host.specs.ToldMail.{MailToldBegins, MailToldWhole}
+use Rattle.many_host.specs.declared.host.Host.{Host}
 use Rattle.many_host.specs.declared.hosted.Hosted.{Hosted}
 use Rattle.many_host.specs.declared.turn_taking.Stage.{Stage}
+use Rattle.many_host.specs.declared.turn_taking.Turns.{Turns}
 use Rattle.many_host.proofs.MailStories.{held_has_story}
 
 pub mail_told_begins : MailToldBegins
@@ -43,3 +48,20 @@ module _ (begun : ℕ) (programs : List Program) (detaches : List Detach) (boxes
       let over : HaveEnded a.stands.tellers = subst HaveEnded (sym a.tellers_are) a.have_ended in
       let run = mail_told_whole begun programs detaches boxes ds ds' mail a.stands.count last lines a.stands.tellers a.stands.at.0 (stories_held _ a.stands) over in
       (run.0, subst (λ (l : List Teller). HaveMet l run.0.actors) a.tellers_are run.1, a.kept)
+
+-- ---- a host
+
+-- what it tells next
+pub host_tells_next : (begun : ℕ) (programs : List Program) (detaches : List Detach) (boxes : List (List ℕ)) (ds : List Device) (lines : List Line) (tellers : List Teller)
+    (old left new : List Counted) (mail : Mail) (h : Host) (ds' : List Device) (mail' : Mail) (result : Option LineValue)
+    → TellsNext begun programs detaches boxes ds lines tellers old left new mail h.turns ds' mail' result
+    → HostTellsNext begun programs detaches boxes ds lines tellers old left new mail h ds' mail' result
+host_tells_next begun programs detaches boxes ds lines tellers old left new mail h ds' mail' None t =
+    whole_told begun programs detaches boxes ds lines (held_of h.turns) h.turns.last ds' mail' tellers old new t
+host_tells_next begun programs detaches boxes ds lines tellers old left new mail h ds' mail' (Some line) t = t
+
+-- where there is no line, the host and the mailboxes are as they were
+pub same_mail_host : (now before : Turns Hosted) (mail mail' : Mail) (result : Option LineValue) → MatchOption result ((now ≡ before) × (mail' ≡ mail)) (λ l. Unit {0})
+    → MatchOption result ((◌≡◌ {A = Host} (record { turns = now }) (record { turns = before })) × (mail' ≡ mail)) (λ l. Unit {0})
+same_mail_host now before mail mail' None same = (λ k. record { turns = same.0 k }, same.1)
+same_mail_host now before mail mail' (Some line) same = tt

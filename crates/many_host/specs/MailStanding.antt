@@ -1,6 +1,6 @@
 -- Several programs of a world with mailboxes, as they are held between two lines.
-use Rattle.std.specs.Prelude.{◌≡◌, ◌⊎◌, ◌<◌, ◌≤◌, ◌^◌, ℕ, suc, ◌+◌, List, [], ◌∷◌, ◌++◌, All, length, map, drop, if◌then◌else◌, nat_eq, Option, Some, None, Bool, true, false, IsSome, MatchOption, slice_get, slice_set}
-use Rattle.std.specs.List.{AllZip, find}
+use Rattle.std.specs.Prelude.{◌≡◌, ◌<◌, ◌≤◌, ◌^◌, ℕ, suc, ◌+◌, List, [], ◌∷◌, ◌++◌, All, length, map, drop, if◌then◌else◌, nat_eq, Option, Some, None, Bool, true, false, IsSome, MatchOption, slice_get, slice_set}
+use Rattle.std.specs.List.{find}
 use Rattle.wa_types.specs.declared.values.Value.TheVariants as V
 use Rattle.wa_model.specs.declared.answers.Detach.{Detach}
 use Rattle.wa_model.specs.declared.events.Line.{Line as LineValue}
@@ -246,4 +246,3 @@ HaveGot (s ∷ ss) xs xs' = (x x' : Hosted) × (slice_get xs s.program ≡ Some 
 abbrev pub dues_settled : (due : ℕ) → List Settled → List (Option ℕ) → List (Option ℕ)
 dues_settled due [] dues = dues
 dues_settled due (s ∷ ss) dues = dues_settled due ss (slice_set dues s.program (Some due))
-

@@ -88,7 +88,7 @@ MailTurnEnds =
     (w : Program) (t : Teller) (x : Note) (now : Amid)
     → TellsOnFrom begun programs detaches boxes ds count i due lines tellers now → slice_get programs i ≡ Some w → slice_get tellers i ≡ Some t → ends_turn x.event ≡ true
     → Tells begun programs detaches boxes ds (suc count) (lines ++ line_at due i (told_pause (parks (x ∷ []) now.receive) x.event) ∷ map (line_at due i) (looks_after w.looks x x.event))
-      (slice_set tellers i (with_last t x now.receive)) (common_of now.devices (mail_behind i (parks (x ∷ []) now.receive) now) due)
+    (slice_set tellers i (with_last t x now.receive)) (common_of now.devices (mail_behind i (parks (x ∷ []) now.receive) now) due)
     × MailStands boxes (slice_set tellers i (with_last t x now.receive)) (mail_behind i (parks (x ∷ []) now.receive) now)
     × MeetMore i [] tellers (slice_set tellers i (with_last t x now.receive))
 
@@ -109,17 +109,15 @@ MailStalls =
 abbrev pub HeldHasStory : Type 0
 HeldHasStory = (shows : List Show) (i : ℕ) (w : Program) (t : Teller) (x : Hosted) → Holds shows i w t x → HasStory w t
 
--- Some run of the world with mailboxes of these names, behind so many events, has these first lines, in which each program's calls meet first what they
--- have met.
-abbrev pub BeginsMailWorld : (begun : ℕ) → List Program → List Detach → (boxes : List (List ℕ)) → List Device → List Line → List Teller → Type 0
-BeginsMailWorld begun programs detaches boxes ds lines tellers =
-    (more : List Line) × (last : List Device) × (world : ProtocolWorldFrom begun programs detaches boxes ds (lines ++ more) last) × HaveMet tellers world.actors
+-- some run of the world with mailboxes of these names, behind so many events, has these first lines
+abbrev pub BeginsMailWorld : (begun : ℕ) → List Program → List Detach → (boxes : List (List ℕ)) → List Device → List Line → Type 0
+BeginsMailWorld begun programs detaches boxes ds lines = (more : List Line) × (last : List Device) × ProtocolWorldFrom begun programs detaches boxes ds (lines ++ more) last
 
 -- The lines of whole events begin a run of the world, where what each program has told begins its story,
 abbrev pub MailToldBegins : Type 0
 MailToldBegins =
     (begun : ℕ) (programs : List Program) (detaches : List Detach) (boxes : List (List ℕ)) (ds es : List Device) (mail : Mail) (count last : ℕ) (lines : List Line) (tellers : List Teller)
-    → Tells begun programs detaches boxes ds count lines tellers (common_of es mail last) → AllZip HasStory programs tellers → BeginsMailWorld begun programs detaches boxes ds lines tellers
+    → Tells begun programs detaches boxes ds count lines tellers (common_of es mail last) → AllZip HasStory programs tellers → BeginsMailWorld begun programs detaches boxes ds lines
 
 -- and once all programs have ended, they are a whole run, whose calls met what the programs' calls did.
 abbrev pub MailToldWhole : Type 0
