@@ -17,6 +17,7 @@ use Rattle.mailbox_device.proofs.Orderly.{empty_waits, orderly_empty}
 use Rattle.mail_laws.specs.Mailboxes.{CallsMeet}
 use Rattle.mail_laws.specs.MailWorld.{is_pause, parks, pauses, store_behind, told_pause}
 use Rattle.mail_laws.specs.Told.{Amid, AreSent, Await, IsLeast, IsWaiting, NotAmong, Teller, Tells, TellsTurn, begun_amid, due_of, ends_program, having_told, if_going, midst_by, parked_in, pending, settle_all, starting, tells_stall, tells_turn, waits_at}
+use Rattle.mail_laws.proofs.Grown.{HasGot, got_at, settle_out}
 use Rattle.mail_laws.proofs.GoingOn.{due_is, over_says}
 use Rattle.mail_laws.proofs.CallsTold.{AreSmall, are_sent, not_among, one_here, times_settled}
 use Rattle.mail_laws.proofs.Promises.{not_sent, still_sent}
@@ -30,7 +31,7 @@ use Rattle.many_host.specs.ToldMail.{AllPaused, MailStalls, MailTurnAwake, MailT
 use Rattle.many_host.proofs.Notes.{goes_on_more, looks_more, off_more, off_none}
 use Rattle.many_host.proofs.MailBoxes.{settled_on, waits_is}
 use Rattle.many_host.proofs.MailKept.{Kept, at_once, begins_amid, kept_on, sent_small, sent_waits, settled_first, still_of, takes_behind, takes_moves}
-use Rattle.many_host.proofs.MailSettled.{HasGot, ends_stand, got_at, nowhere, settle_on, settle_out, settle_past, stall_stands}
+use Rattle.many_host.proofs.MailSettled.{ends_stand, nowhere, settle_on, settle_past, stall_stands}
 
 -- ---- before the first event
 

@@ -1,5 +1,5 @@
 -- What is known of mailboxes stays so behind a turn, and where a program that waits ends.
-use Rattle.std.proofs.Common.{arith, ◌≡◌, ◌<◌, ◌≤◌, ◌+◌, ◌^◌, ◌⊎◌, inl, inr, ℕ, List, [], ◌∷◌, ◌++◌, map, Option, Some, None, Bool, true, false, if◌then◌else◌, nat_eq, All, slice_get, slice_set, refl, sym, ap, ◌∙◌}
+use Rattle.std.proofs.Common.{arith, ◌≡◌, ◌<◌, ◌≤◌, ◌+◌, ◌⊎◌, inl, inr, ℕ, List, [], ◌∷◌, ◌++◌, map, Option, Some, None, Bool, true, false, if◌then◌else◌, nat_eq, All, slice_get, slice_set, refl, sym, ap, ◌∙◌}
 use Rattle.std.specs.Option.{unwrap_or}
 use Rattle.std.proofs.lemmas.Bool.{cases_eq, cases_lt, eqb-true}
 use Rattle.std.proofs.lemmas.List.{set_comm}
@@ -13,6 +13,7 @@ use Rattle.mailbox_device.specs.Mail.{Box, IsServed, Mail, awaited, names_of, wa
 use Rattle.mail_laws.specs.MailWorld.{is_pause, pauses}
 use Rattle.mail_laws.specs.Told.{Amid, AreSent, Await, NoneDue, NotAmong, Teller, due_of, having_got, if_going, no_teller, parked_in, settle_all, waiting_in, waits_at}
 use Rattle.mail_laws.proofs.CallsTold.{not_among, one_where, times, times_settled, times_waiting}
+use Rattle.mail_laws.proofs.Grown.{settle_out}
 use Rattle.mail_laws.proofs.GoingOn.{Got, over_says, settle_at}
 use Rattle.mail_laws.proofs.Promises.{not_sent, still_sent}
 use Rattle.many_host.specs.MailStanding.{MailStands, SomeDue}
@@ -21,13 +22,6 @@ use Rattle.many_host.proofs.MailBoxes.{changed_all, changed_names, changed_times
 use Rattle.many_host.proofs.MailKept.{at_once}
 
 -- ---- who is sent a value
-
--- who is sent nothing stays
-pub settle_out : (due : ℕ) (ss : List Settled) (tellers : List Teller) (j : ℕ) → NotAmong j ss → slice_get (settle_all due ss tellers) j ≡ slice_get tellers j
-settle_out due [] tellers j out = refl
-settle_out due (s ∷ ss) tellers j out =
-    settle_out due ss (slice_set tellers s.program (having_got due s.value (unwrap_or (slice_get tellers s.program) no_teller))) j out.1
-    ∙ set_there tellers s.program j (having_got due s.value (unwrap_or (slice_get tellers s.program) no_teller)) out.0
 
 -- some behind others
 pub settle_on : (due : ℕ) (xs ys : List Settled) (tellers : List Teller) → settle_all due (xs ++ ys) tellers ≡ settle_all due ys (settle_all due xs tellers)
@@ -46,39 +40,6 @@ settle_past due (s ∷ ss) tellers i t out =
   where
     got : Teller
     got = having_got due s.value (unwrap_or (slice_get tellers s.program) no_teller)
-
--- A program that waited has got a value.
-pub record HasGot (due : ℕ) (t t' : Teller) : Type 0 where
-  pub r : Await
-  pub value : ℕ
-  pub small : value < 2 ^ 32
-  pub receive : t.receive ≡ Some r
-  pub is : t' ≡ having_got due value t
-
--- what each program is told as, once those that were sent a value have got it
-pub got_at : (due : ℕ) (ss : List Settled) (tellers : List Teller) (j : ℕ) (t t' : Teller) → AreSent tellers ss → slice_get tellers j ≡ Some t → slice_get (settle_all due ss tellers) j ≡ Some t'
-    → (t' ≡ t) ⊎ HasGot due t t'
-got_at due [] tellers j t t' sent e e' = inl (same_Some t' t (sym e' ∙ e))
-got_at due (s ∷ ss) tellers j t t' sent e e' =
-    by (cases_eq j s.program) (λ there. got_at due ss (slice_set tellers s.program got) j t t' (still_sent tellers ss s.program got sent.2 sent.3) there e')
-  where
-    got : Teller
-    got = having_got due s.value (unwrap_or (slice_get tellers s.program) no_teller)
-
-    by : (j ≡ s.program) ⊎ (j ≡ s.program → ⊥) → (slice_get (slice_set tellers s.program got) j ≡ Some t → (t' ≡ t) ⊎ HasGot due t t') → (t' ≡ t) ⊎ HasGot due t t'
-    by (inr other) on = on (set_there tellers s.program j got other ∙ e)
-    by (inl same) on =
-        let here : slice_get (settle_all due ss (slice_set tellers s.program got)) s.program ≡ Some got =
-        settle_out due ss (slice_set tellers s.program got) s.program sent.2 ∙ set_here tellers s.program got sent.0.t sent.0.there in
-        let is : t' ≡ got = same_Some t' got (sym e' ∙ ap (slice_get (settle_all due ss (slice_set tellers s.program got))) same ∙ here) in
-        let was : sent.0.t ≡ t = same_Some sent.0.t t (sym sent.0.there ∙ ap (slice_get tellers) (sym same) ∙ e) in
-        inr (record {
-          r = sent.0.r;
-          value = s.value;
-          small = sent.1;
-          receive = ap (λ (x : Teller). x.receive) (sym was) ∙ sent.0.waits;
-          is = is ∙ ap (λ (o : Option Teller). having_got due s.value (unwrap_or o no_teller)) (ap (slice_get tellers) (sym same) ∙ e);
-        })
 
 -- who is sent a value waits no more
 pub got_none : (due : ℕ) (ss : List Settled) (tellers : List Teller) (j : ℕ) (t : Teller) → AreSent tellers ss → 0 < times_settled j ss → slice_get (settle_all due ss tellers) j ≡ Some t

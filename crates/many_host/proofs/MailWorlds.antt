@@ -1,27 +1,31 @@
 -- What a host with mailboxes has told, as a world's run.
-use Rattle.std.proofs.Common.{arith, ◌≡◌, ℕ, List, Option, Some, None, slice_get, sym, subst}
+use Rattle.std.proofs.Common.{arith, ◌≡◌, ℕ, List, Option, Some, None, slice_get, sym, subst, ◌++◌, map, drop, append_assoc}
 use Rattle.std.specs.Prelude.{MatchOption}
 use Rattle.std.specs.List.{AllZip}
 use Rattle.std.proofs.lemmas.Option.{slice_get_within}
 use Rattle.wa_model.specs.declared.answers.Detach.{Detach}
 use Rattle.wa_model.specs.declared.events.Line.{Line as LineValue}
 use Rattle.wa_model.specs.Outside.{Line}
-use Rattle.world_model.specs.World.{Device, Program}
+use Rattle.world_model.specs.World.{Device, Program, line_at}
 use Rattle.world_laws.proofs.Places.{item, zipped}
+use Rattle.event_order.specs.declared.turns.Turn.{Turn}
 use Rattle.event_order.specs.Left.{Counted}
+use Rattle.event_order.specs.Looks.{looks_of}
 use Rattle.mailbox_device.specs.Mail.{Mail}
 use Rattle.mail_laws.specs.MailWorld.{ProtocolWorldFrom}
 use Rattle.mail_laws.specs.Told.{HasStory, HaveEnded, HaveMet, Teller}
-use Rattle.mail_laws.proofs.PlayedAreTold.{told_goes_on}
-use Rattle.mail_laws.proofs.ToldAreWorlds.{all_told_is_world}
+use Rattle.mail_laws.proofs.GoneOn.{told_goes_on}
 use Rattle.many_host.specs.MailHosts.{HostTellsNext}
 use Rattle.many_host.specs.MailStanding.{AllTold, StandingFrom, TellsNext, common_of}
-use Rattle.many_host.specs.Standing.{Held, held_of}
-use Rattle.many_host.specs.ToldMail.{MailToldBegins, MailToldWhole}
+use Rattle.many_host.specs.Standing.{Held, held_of, looks_at}
+use Rattle.many_host.specs.ToldMail.{MailToldBegins, MailToldWhole, BeginsMailWorld}
 use Rattle.many_host.specs.declared.host.Host.{Host}
 use Rattle.many_host.specs.declared.hosted.Hosted.{Hosted}
 use Rattle.many_host.specs.declared.turn_taking.Stage.{Stage}
 use Rattle.many_host.specs.declared.turn_taking.Turns.{Turns}
+use Rattle.mail_laws.proofs.Prepared.{all_told_is_world}
+use Rattle.many_host.specs.Hosts.{memory_of}
+use Rattle.many_host.specs.declared.turn_taking.Stage.TheVariants.{Between, Showing}
 use Rattle.many_host.proofs.MailStories.{held_has_story}
 
 pub mail_told_begins : MailToldBegins
@@ -48,6 +52,17 @@ module _ (begun : ℕ) (programs : List Program) (detaches : List Detach) (boxes
       let over : HaveEnded a.stands.tellers = subst HaveEnded (sym a.tellers_are) a.have_ended in
       let run = mail_told_whole begun programs detaches boxes ds ds' mail a.stands.count last lines a.stands.tellers a.stands.at.0 (stories_held _ a.stands) over in
       (run.0, subst (λ (l : List Teller). HaveMet l run.0.actors) a.tellers_are run.1, a.kept)
+
+  -- between turns, and while memory is shown, what was told begins a run of the world
+  pub begins_between : (s : StandingFrom begun programs detaches boxes ds lines h last ds' mail Between) → BeginsMailWorld begun programs detaches boxes ds lines s.tellers
+  begins_between s = mail_told_begins begun programs detaches boxes ds ds' mail s.count last lines s.tellers s.at.0 (stories_held Between s)
+
+  pub begins_showing : (turn : Turn) (from : ℕ) (s : StandingFrom begun programs detaches boxes ds lines h last ds' mail (Showing turn from)) → BeginsMailWorld begun programs detaches boxes ds lines s.tellers
+  begins_showing turn from s =
+      let rest : List Line = map (line_at turn.due turn.program) (looks_at (memory_of s.at.0) (looks_of turn.program (drop from h.shows))) in
+      let run = mail_told_begins begun programs detaches boxes ds ds' mail s.count last (lines ++ rest) s.tellers s.at.2 (stories_held (Showing turn from) s) in
+      let both = subst (λ (l : List Line). (world : ProtocolWorldFrom begun programs detaches boxes ds l run.1) × HaveMet s.tellers world.actors) (append_assoc lines rest run.0) (run.2, run.3) in
+      (rest ++ run.0, run.1, both.0, both.1)
 
 -- ---- a host
 

@@ -109,15 +109,17 @@ MailStalls =
 abbrev pub HeldHasStory : Type 0
 HeldHasStory = (shows : List Show) (i : ℕ) (w : Program) (t : Teller) (x : Hosted) → Holds shows i w t x → HasStory w t
 
--- some run of the world with mailboxes of these names, behind so many events, has these first lines
-abbrev pub BeginsMailWorld : (begun : ℕ) → List Program → List Detach → (boxes : List (List ℕ)) → List Device → List Line → Type 0
-BeginsMailWorld begun programs detaches boxes ds lines = (more : List Line) × (last : List Device) × ProtocolWorldFrom begun programs detaches boxes ds (lines ++ more) last
+-- Some run of the world with mailboxes of these names, behind so many events, has these first lines, in which each program's calls meet first what they
+-- have met.
+abbrev pub BeginsMailWorld : (begun : ℕ) → List Program → List Detach → (boxes : List (List ℕ)) → List Device → List Line → List Teller → Type 0
+BeginsMailWorld begun programs detaches boxes ds lines tellers =
+    (more : List Line) × (last : List Device) × (world : ProtocolWorldFrom begun programs detaches boxes ds (lines ++ more) last) × HaveMet tellers world.actors
 
 -- The lines of whole events begin a run of the world, where what each program has told begins its story,
 abbrev pub MailToldBegins : Type 0
 MailToldBegins =
     (begun : ℕ) (programs : List Program) (detaches : List Detach) (boxes : List (List ℕ)) (ds es : List Device) (mail : Mail) (count last : ℕ) (lines : List Line) (tellers : List Teller)
-    → Tells begun programs detaches boxes ds count lines tellers (common_of es mail last) → AllZip HasStory programs tellers → BeginsMailWorld begun programs detaches boxes ds lines
+    → Tells begun programs detaches boxes ds count lines tellers (common_of es mail last) → AllZip HasStory programs tellers → BeginsMailWorld begun programs detaches boxes ds lines tellers
 
 -- and once all programs have ended, they are a whole run, whose calls met what the programs' calls did.
 abbrev pub MailToldWhole : Type 0
