@@ -37,3 +37,5 @@ pub mod MailCounting
 pub mod MailEvents
 pub mod MailPrinted
 pub mod MailTakes
+pub mod MailBegun
+pub mod MailHosted

@@ -3,7 +3,8 @@ use Rattle.std.proofs.Common.{arith, ◌≡◌, ◌≤◌, ◌+◌, inl, inr, �
 use Rattle.std.specs.Prelude.{if◌then◌else◌, nat_eq, slice_get}
 use Rattle.std.specs.List.{AllZip}
 use Rattle.std.proofs.lemmas.List.{length-map, take_all}
-use Rattle.std.proofs.lemmas.Option.{slice_get_within}
+use Rattle.std.specs.Option.{option_map}
+use Rattle.std.proofs.lemmas.Option.{same_Some, slice_get-map, slice_get_within}
 use Rattle.vault_port.specs.declared.whole.PutFault.{PutFault}
 use Rattle.vault_port.specs.declared.whole.PutFault.TheVariants.{Memory}
 use Rattle.vault_port.specs.Taken.{Appends, AppendsLess, AppendsPast}
@@ -16,9 +17,9 @@ use Rattle.script_model.specs.Transcript.{event_line, event_lines, last_line, na
 use Rattle.world_model.specs.World.{Device, Program}
 use Rattle.world_laws.proofs.Places.{item}
 use Rattle.event_order.specs.Left.{Counted}
-use Rattle.mailbox_device.specs.Mail.{Mail, names_of}
+use Rattle.mailbox_device.specs.Mail.{Mail, empty_mail, names_of}
 use Rattle.mail_laws.specs.MailWorld.{Actor, ProtocolWorld, StartsHeld}
-use Rattle.mail_laws.specs.Told.{Await, HaveMet, Teller, pending, starting}
+use Rattle.mail_laws.specs.Told.{Await, Common, HaveMet, Teller, Tells, pending, starting}
 use Rattle.many_host.specs.Calls.{AreLeft, BegunBy, devices_of, left_at}
 use Rattle.many_host.specs.declared.host.Host.{Host}
 use Rattle.many_host.specs.declared.turn_taking.Stage.{Stage}
@@ -29,7 +30,7 @@ use Rattle.many_host.specs.Standing.{LooksOut, held_of}
 use Rattle.many_host.specs.ToldMail.{BeginsMailWorld}
 use Rattle.transcript.specs.declared.events.Names.{Names}
 use Rattle.transcript.specs.Printing as P
-use Rattle.transcript.proofs.LineTexts.{becomes_by, becomes_same, line_more, then_less, then_printed}
+use Rattle.transcript.proofs.LineTexts.{becomes_by, becomes_same, line_more, nothing_yet, then_less, then_printed}
 use Rattle.world_hosting.specs.Counts.{met_by}
 use Rattle.world_hosting.specs.MailCounts.{AreKnown, IsKnownAs, TakesBeside, TookBeside, ends_event, event_count}
 use Rattle.world_hosting.specs.MailWorlds.{AreMailBegun, AreMailTold, TellsMail, TellsMailPart}
@@ -97,6 +98,12 @@ are_known lines met tellers actors long known have i a ea =
       front.2,
     )
 
+starting_met : (programs : List Program) (i : ℕ) (t : Teller) → slice_get (map starting programs) i ≡ Some t → met_so_far t ≡ []
+starting_met programs i t at = by (slice_get programs i) (sym (slice_get-map starting programs i) ∙ at) where
+  by : (o : Option Program) → option_map starting o ≡ Some t → met_so_far t ≡ []
+  by None e = cc
+  by (Some w) e = ap (λ (x : Teller). met_so_far x) (sym (same_Some (starting w) t e))
+
 -- ---- lines that are being told
 
 module _ (parts : List Part) (detaches : List Detach) (boxes : List (List ℕ)) (cs : List Counted) where
@@ -136,6 +143,35 @@ module _ (parts : List Part) (detaches : List Detach) (boxes : List (List ℕ)) 
 
   as_wide : (h : Host) (now : List Counted) (mail : Mail) (t : HasMailTold h now mail) (actors : List Actor) → AllZip StartsHeld programs actors → length actors ≡ length t.host.tellers
   as_wide h now mail t actors starts = zip_long StartsHeld programs actors starts ∙ sym t.host.wide
+
+  -- before its first line its programs have met nothing
+  none_met_yet : (h : Host) (mail : Mail) (told : HostTellsFrom 0 programs detaches boxes ds [] h ds mail) → h.turns.begun ≡ 0 → MetKnown [] [] told.tellers
+  none_met_yet h mail told none i t et = subst (AllZip IsKnownAs []) (sym (by h.turns.stage told.at)) tt
+    where
+      none_told : told.count ≡ 0
+      none_told = let sum = told.begun_is in omega (arith, sum, none)
+
+      first : (lines : List Line) (c : Common) → Tells 0 programs detaches boxes ds told.count lines told.tellers c → met_so_far t ≡ []
+      first lines c at =
+          let start = subst (λ (n : ℕ). Tells 0 programs detaches boxes ds n lines told.tellers c) none_told at in
+          starting_met programs i t (ap (λ (l : List Teller). slice_get l i) (sym start.1) ∙ et)
+
+      by : (stage : Stage) → StandsAtFrom 0 programs detaches boxes ds told.count [] told.tellers (held_of h.turns) h.turns.last ds mail stage → met_so_far t ≡ []
+      by S.Between at = first [] _ at.0
+      by (S.Telling turn) at = let more = at.1 in let never : ⊥ = omega (arith, none_told, more) in absurd never
+      by (S.Showing turn from) at = first _ _ at.2
+
+  -- its first line is still to come
+  pub mail_first : (h : Host) (mail : Mail) (o : Option (List ℕ)) → HostTellsFrom 0 programs detaches boxes ds [] h ds (empty_mail boxes) → h.turns.begun ≡ 0 → mail ≡ empty_mail boxes
+      → (x : HasMailPrinted h cs mail o o) × (length x.told.lines ≡ 0)
+  mail_first h mail o told none empty =
+      subst (λ (m : Mail). (x : HasMailPrinted h cs m o o) × (length x.told.lines ≡ 0)) (sym empty) (
+        record {
+          told = record { lines = []; host = told; met = []; took = (none, refl); known = none_met_yet h (empty_mail boxes) told none };
+          printed = nothing_yet o;
+        },
+        refl,
+      )
 
   -- nothing was printed
   pub mail_none_printed : BeginsMailWorld 0 programs detaches boxes ds [] (map starting programs) → (o : Option (List ℕ)) → TellsMailPart Memory parts detaches boxes cs cs o o
