@@ -40,7 +40,7 @@ use Rattle.many_host.proofs.MailNext.{next_held}
 use Rattle.many_host.proofs.DueTicks.{due_behind_it, place_behind}
 use Rattle.many_host.proofs.MailHeld.{IsParkedAt, parked_at}
 use Rattle.many_host.proofs.MailNotes.{mail_turn_awake, mail_turn_ends}
-use Rattle.many_host.proofs.MailSettled.{settle_out}
+use Rattle.mail_laws.proofs.Grown.{settle_out}
 use Rattle.many_host.proofs.MailTells as T
 use Rattle.many_host.proofs.MailTells.{set_held}
 
