@@ -1,6 +1,6 @@
 //! The programs of a script that share mailboxes, told to their ends.
 
-ghost use Rattle.std.specs.Prelude.{◌≡◌, ◌≢◌, ◌≤◌, IsErrOf, List, OnOk, length};
+ghost use Rattle.std.specs.Prelude.{◌≡◌, ◌≢◌, ◌≤◌, ℕ, IsErrOf, List, OnOk, length};
 ghost use Rattle.std.specs.Result.{IfErr};
 ghost use Rattle.vault_port.specs.Counts.{FailsOnce};
 ghost use Rattle.wa_model.specs.declared.answers.Detach.{Detach as DetachValue};
