@@ -123,7 +123,7 @@ fn tell_mail_lines<S: Sink>(
     ensures stays { result ≢ Err PutFault.Fault → S.faults out.new ≡ S.faults out.old }
     ensures faults { S.faults out.old ≤ S.faults out.new }
 {
-    'telling: for _told in 0..u64::MAX {
+    'telling: for _told in 0..u128::MAX {
         let events = host.events();
         let Ok(next) = host.next(devices, mail) else {
             return Err(PutFault::Memory);
@@ -135,6 +135,6 @@ fn tell_mail_lines<S: Sink>(
             return Err(fault);
         }
     }
-    // Sixteen programs tell fewer lines: three a step and two more each, and one for each show.
+    // Sixteen programs tell fewer lines: three a step and two more each, and two for each show at most, which may be more than 2^64.
     unreachable!()
 }
