@@ -1,38 +1,32 @@
--- What is told of programs with mailboxes begins a run of the world.
+-- Where nothing has been told of programs with mailboxes, that begins a run of the world.
 use Rattle.std.proofs.Common.{◌≡◌, ℕ, List, [], map, Option, Some, None, refl, sym, ap, ◌∙◌, subst, arith}
 use Rattle.std.specs.Prelude.{slice_get}
 use Rattle.std.specs.Option.{option_map}
 use Rattle.std.proofs.lemmas.List.{length-map}
 use Rattle.std.proofs.lemmas.Option.{same_Some, slice_get-map, slice_get_within}
 use Rattle.wa_model.specs.declared.answers.Detach.{Detach}
-use Rattle.wa_model.specs.Outside.{Line}
 use Rattle.world_model.specs.World as W
 use Rattle.world_model.specs.World.{Device}
 use Rattle.world_laws.proofs.Places.{all_at, item, zipped}
 use Rattle.event_order.specs.declared.shows.Show.{Show}
-use Rattle.mailbox_device.specs.Mail.{Mail, empty_mail}
+use Rattle.mailbox_device.specs.Mail.{empty_mail}
 use Rattle.mail_laws.specs.Told.{HasStory, Teller, starting}
 use Rattle.pause_host.specs.declared.program.Program.{Program}
 use Rattle.pause_host.specs.Programs.{receive_in}
-use Rattle.many_host.specs.declared.host.Host.{Host}
 use Rattle.many_host.specs.declared.hosted.Hosted.{Hosted}
-use Rattle.many_host.specs.declared.turn_taking.Stage.{Stage}
-use Rattle.many_host.specs.declared.turn_taking.Stage.TheVariants as G
 use Rattle.many_host.specs.Hosts.{AreSetUp, follows, has_ended}
-use Rattle.many_host.specs.MailHosts.{HostTellsFrom, NoneWaits}
-use Rattle.many_host.specs.MailStanding.{Holds, StandingFrom, has_gone, on_its_way}
-use Rattle.many_host.specs.Standing.{AllStart, held_of}
+use Rattle.many_host.specs.MailHosts.{NoneWaits}
+use Rattle.many_host.specs.MailStanding.{Holds, has_gone, on_its_way}
+use Rattle.many_host.specs.Standing.{AllStart}
 use Rattle.many_host.specs.Standing as S
 use Rattle.many_host.specs.ToldMail.{BeginsMailWorld}
 use Rattle.many_host.specs.Turns as T
 use Rattle.many_host.proofs.MailNotes.{nothing_mail_told}
 use Rattle.many_host.proofs.MailStages.{not_parked}
 use Rattle.many_host.proofs.MailStories.{held_has_story, same_gone}
-use Rattle.many_host.proofs.MailWorlds.{begins_between, begins_showing, mail_told_begins}
+use Rattle.many_host.proofs.MailWorlds.{mail_told_begins}
 use Rattle.many_host.proofs.Tellings.{all_start}
 use Rattle.world_hosting.proofs.Begun.{hosted, unhosted}
-
--- ---- before a host is made
 
 -- a program that was set up and waits for no mailbox, as it is held
 starts_held : (shows : List Show) (i : ℕ) (w : W.Program) (x : Hosted) → S.Holds follows has_ended shows i w (T.starting w) x → receive_in x.program ≡ None → Holds shows i w (starting w) x
@@ -63,14 +57,3 @@ begins_no_mail ws shows xs detaches boxes ds set none =
         let is : starting w ≡ t = same_Some (starting w) t (ap (option_map starting) (sym ew) ∙ sym (slice_get-map starting ws i) ∙ et) in
         subst (HasStory w) is
         (held_has_story shows i w (starting w) (hosted y.0) (starts_held shows i w (hosted y.0) (start.each i w (hosted y.0) ew there) (all_at (λ (x : Program). receive_in x ≡ None) xs i y.0 none y.1)))
-
--- ---- what a host has told
-
-pub host_begins : (begun : ℕ) (programs : List W.Program) (detaches : List Detach) (boxes : List (List ℕ)) (ds : List Device) (lines : List Line) (h : Host) (ds' : List Device) (mail : Mail)
-    (told : HostTellsFrom begun programs detaches boxes ds lines h ds' mail) → BeginsMailWorld begun programs detaches boxes ds lines told.tellers
-host_begins begun programs detaches boxes ds lines h ds' mail told = by h.turns.stage told
-  where
-    by : (stage : Stage) (s : StandingFrom begun programs detaches boxes ds lines (held_of h.turns) h.turns.last ds' mail stage) → BeginsMailWorld begun programs detaches boxes ds lines s.tellers
-    by G.Between s = begins_between begun programs detaches boxes ds lines (held_of h.turns) h.turns.last ds' mail s
-    by (G.Showing turn from) s = begins_showing begun programs detaches boxes ds lines (held_of h.turns) h.turns.last ds' mail turn from s
-    by (G.Telling turn) s = ?

@@ -25,7 +25,7 @@ use Rattle.many_host.specs.declared.host.Host.{Host}
 use Rattle.many_host.specs.declared.turn_taking.Stage.{Stage}
 use Rattle.many_host.specs.declared.turn_taking.Stage.TheVariants as S
 use Rattle.many_host.specs.MailHosts.{HostTellsFrom}
-use Rattle.many_host.specs.MailStanding.{MeetMore, StandsAtFrom, TellsLineFrom, met_so_far, met_with}
+use Rattle.many_host.specs.MailStanding.{MeetMore, StandingFrom, StandsAtFrom, TellsLineFrom, met_so_far, met_with}
 use Rattle.many_host.specs.Standing.{LooksOut, held_of}
 use Rattle.many_host.specs.ToldMail.{BeginsMailWorld}
 use Rattle.transcript.specs.declared.events.Names.{Names}
@@ -33,7 +33,8 @@ use Rattle.transcript.specs.Printing as P
 use Rattle.transcript.proofs.LineTexts.{becomes_by, becomes_same, line_more, nothing_yet, then_less, then_printed}
 use Rattle.world_hosting.specs.Counts.{met_by}
 use Rattle.world_hosting.specs.MailCounts.{AreKnown, IsKnownAs, TakesBeside, TookBeside, ends_event, event_count}
-use Rattle.world_hosting.specs.MailWorlds.{AreMailBegun, AreMailTold, TellsMail, TellsMailPart}
+use Rattle.many_host.proofs.MailWorlds.{begins_between, begins_showing, stories_held}
+use Rattle.world_hosting.specs.MailWorlds.{AreMailBegun, BeginsMailLines, AreMailTold, TellsMail, TellsMailPart}
 use Rattle.world_hosting.specs.Worlds.{IsLeft, Part, PrintsPart, part_names, world_programs}
 use Rattle.world_hosting.proofs.MailEvents.{begun_by_next, events_begun}
 use Rattle.world_hosting.proofs.MailTakes.{taken_beside}
@@ -180,11 +181,8 @@ module _ (parts : List Part) (detaches : List Detach) (boxes : List (List ℕ)) 
     [],
     inl (record {
       lines = [];
-      more = b.0;
       met = [];
-      last = b.1;
-      world = b.2;
-      meets = λ i a ea. ([], tt, (a.outcomes, refl));
+      begins = inl (b.0, b.1, b.2, λ i a ea. ([], tt, (a.outcomes, refl)));
       begun = 0;
       there = cs;
       took = (refl, refl);
@@ -199,121 +197,129 @@ module _ (parts : List Part) (detaches : List Detach) (boxes : List (List ℕ)) 
     becomes_same (PrintsPart Memory 0 []) (λ x. (0, omega arith, sym (append-nil x))) o,
   )
 
-  -- where what a host has told begins a run of the world
-  module _ (begins_world : (lines : List Line) (h : Host) (ds' : List Device) (mail : Mail) (told : HostTellsFrom 0 programs detaches boxes ds lines h ds' mail)
-      → BeginsMailWorld 0 programs detaches boxes ds lines told.tellers) where
-    -- the devices are those that the lines left, or that are left when the next event begins
-    are_begun : (h : Host) (now : List Counted) (mail : Mail) (t : HasMailTold h now mail) (es : List Counted) (fault : PutFault) → IsLeft fault h.turns.begun detaches now es
-        → (before behind : List Line) → length behind ≤ 1 → t.lines ≡ before ++ behind → AreMailBegun fault parts detaches boxes cs es (length (begun before)) (begun t.lines)
-    are_begun h now mail t es fault left before behind one parted =
-        let b = begins_world t.lines h (devices_of now) mail t.host in
+  -- what a host has told begins a run of the world, or is in the midst of a turn
+  begins_lines : (h : Host) (now : List Counted) (mail : Mail) (t : HasMailTold h now mail) → BeginsMailLines programs detaches boxes ds t.lines t.met
+  begins_lines h now mail t = by h.turns.stage t.host t.known
+    where
+      in_world : (tellers : List Teller) → length tellers ≡ length programs → MetKnown t.lines t.met tellers → BeginsMailWorld 0 programs detaches boxes ds t.lines tellers
+          → BeginsMailLines programs detaches boxes ds t.lines t.met
+      in_world tellers wide known b = inl (b.0, b.1, b.2, are_known t.lines t.met tellers b.2.actors (zip_long StartsHeld programs b.2.actors b.2.starts ∙ sym wide) known b.3)
+
+      by : (stage : Stage) (s : StandingFrom 0 programs detaches boxes ds t.lines (held_of h.turns) h.turns.last (devices_of now) mail stage) → MetKnown t.lines t.met s.tellers
+          → BeginsMailLines programs detaches boxes ds t.lines t.met
+      by S.Between s known = in_world s.tellers s.wide known (begins_between 0 programs detaches boxes ds t.lines (held_of h.turns) h.turns.last (devices_of now) mail s)
+      by (S.Showing turn from) s known = in_world s.tellers s.wide known (begins_showing 0 programs detaches boxes ds t.lines (held_of h.turns) h.turns.last (devices_of now) mail turn from s)
+      by (S.Telling turn) s known =
+          inr (s.at.0, turn.program, turn.due, s.tellers, _, s.at.6, stories_held 0 programs detaches boxes ds t.lines (held_of h.turns) h.turns.last (devices_of now) mail (S.Telling turn) s)
+
+  -- the devices are those that the lines left, or that are left when the next event begins
+  are_begun : (h : Host) (now : List Counted) (mail : Mail) (t : HasMailTold h now mail) (es : List Counted) (fault : PutFault) → IsLeft fault h.turns.begun detaches now es
+      → (before behind : List Line) → length behind ≤ 1 → t.lines ≡ before ++ behind → AreMailBegun fault parts detaches boxes cs es (length (begun before)) (begun t.lines)
+  are_begun h now mail t es fault left before behind one parted =
+      record {
+        lines = t.lines;
+        met = t.met;
+        begins = begins_lines h now mail t;
+        begun = h.turns.begun;
+        there = now;
+        took = t.took;
+        left = left;
+        text_is = refl;
+        before = before;
+        behind = behind;
+        one = one;
+        lines_are = parted;
+        least_is = refl;
+      }
+
+  module _ (h : Host) (now : List Counted) (mail : Mail) (old mid : Option (List ℕ)) (t : HasMailPrinted h now mail old mid) where
+    abbrev lines : List Line
+    lines = t.told.lines
+
+    -- memory is wanting
+    pub mail_so_far : (es : List Counted) → AreLeft h.turns.begun detaches now es → TellsMailPart Memory parts detaches boxes cs es old mid
+    mail_so_far es left = (
+      length (begun lines),
+      begun lines,
+      inl (are_begun h now mail t.told es Memory left lines [] (omega arith) (sym (append-nil lines))),
+      becomes_by (Appends (begun lines)) (PrintsPart Memory (length (begun lines)) (begun lines))
+          (λ x y p. (length (begun lines), omega arith, p ∙ ap (λ (s : List ℕ). x ++ s) (sym (take_all (length (begun lines)) (begun lines) (omega arith))))) old mid t.printed,
+    )
+
+    -- one line more, or less of it
+    module _ (next : Host) (es : List Counted) (mail' : Mail) (own : List T.Names) (are : own ≡ names) (l : Line)
+        (n : TellsLineFrom 0 programs detaches boxes ds lines t.told.host.tellers (left_at h.turns.begun next.turns.begun detaches now) es mail l (held_of next.turns) next.turns.last (devices_of es) mail'
+        next.turns.stage)
+        (begins : BegunBy h.turns.stage h.turns.begun next.turns.begun l.event) where
+      same_text : begun lines ++ event_line (names_at own l.program) l ≡ begun (lines ++ l ∷ [])
+      same_text = ap (λ (n : List T.Names). begun lines ++ event_line (names_at n l.program) l) are ∙ line_more names lines l
+
+      abbrev one_more : HasMailTold next es mail'
+      one_more = record {
+        lines = lines ++ l ∷ [];
+        host = n.stands;
+        met = t.told.met ++ n.met ∷ [];
+        took = took_on ends_event (TakesBeside boxes programs) detaches 0 0 h.turns.begun next.turns.begun lines t.told.met l n.met cs now es t.told.took
+            (begun_by_next 0 programs detaches boxes ds lines h (devices_of now) mail t.told.host next.turns.begun l.event begins)
+            (taken_beside boxes programs l n.met (left_at h.turns.begun next.turns.begun detaches now) es mail mail' (boxes_named h now mail t.told) n.takes);
+        known = known_more lines t.told.met l n.met t.told.host.tellers n.stands.tellers
+            (took_long ends_event (TakesBeside boxes programs) detaches 0 0 lines t.told.met cs h.turns.begun now t.told.took) (n.stands.wide ∙ sym t.told.host.wide) t.told.known n.meets;
+      }
+
+      pub mail_told_on : (new : Option (List ℕ)) → Becomes mid new (Appends (event_line (names_at own l.program) l))
+          → (x : HasMailPrinted next es mail' old new) × (length x.told.lines ≡ length t.told.lines + 1)
+      mail_told_on new p = (
         record {
-          lines = t.lines;
-          more = b.0;
-          met = t.met;
-          last = b.1;
-          world = b.2;
-          meets = are_known t.lines t.met t.host.tellers b.2.actors (as_wide h now mail t b.2.actors b.2.starts) t.known b.3;
-          begun = h.turns.begun;
-          there = now;
-          took = t.took;
-          left = left;
-          text_is = refl;
-          before = before;
-          behind = behind;
-          one = one;
-          lines_are = parted;
-          least_is = refl;
-        }
-
-    module _ (h : Host) (now : List Counted) (mail : Mail) (old mid : Option (List ℕ)) (t : HasMailPrinted h now mail old mid) where
-      abbrev lines : List Line
-      lines = t.told.lines
-
-      -- memory is wanting
-      pub mail_so_far : (es : List Counted) → AreLeft h.turns.begun detaches now es → TellsMailPart Memory parts detaches boxes cs es old mid
-      mail_so_far es left = (
-        length (begun lines),
-        begun lines,
-        inl (are_begun h now mail t.told es Memory left lines [] (omega arith) (sym (append-nil lines))),
-        becomes_by (Appends (begun lines)) (PrintsPart Memory (length (begun lines)) (begun lines))
-            (λ x y p. (length (begun lines), omega arith, p ∙ ap (λ (s : List ℕ). x ++ s) (sym (take_all (length (begun lines)) (begun lines) (omega arith))))) old mid t.printed,
+          told = one_more;
+          printed = subst (λ (s : List ℕ). Becomes old new (Appends s)) same_text (then_printed (begun lines) (event_line (names_at own l.program) l) old mid new t.printed p);
+        },
+        length-append t.told.lines (l ∷ []),
       )
 
-      -- one line more, or less of it
-      module _ (next : Host) (es : List Counted) (mail' : Mail) (own : List T.Names) (are : own ≡ names) (l : Line)
-          (n : TellsLineFrom 0 programs detaches boxes ds lines t.told.host.tellers (left_at h.turns.begun next.turns.begun detaches now) es mail l (held_of next.turns) next.turns.last (devices_of es) mail'
-          next.turns.stage)
-          (begins : BegunBy h.turns.stage h.turns.begun next.turns.begun l.event) where
-        same_text : begun lines ++ event_line (names_at own l.program) l ≡ begun (lines ++ l ∷ [])
-        same_text = ap (λ (n : List T.Names). begun lines ++ event_line (names_at n l.program) l) are ∙ line_more names lines l
+      pub mail_told_less : (fault : PutFault) (new : Option (List ℕ)) → Becomes mid new (AppendsLess (event_line (names_at own l.program) l)) → TellsMailPart fault parts detaches boxes cs es old new
+      mail_told_less fault new p = (
+        length (begun lines),
+        begun (lines ++ l ∷ []),
+        inl (are_begun next es mail' one_more es fault (left_there fault next.turns.begun detaches es) lines (l ∷ []) (omega arith) refl),
+        becomes_by (AppendsPast (length (begun lines)) (begun (lines ++ l ∷ []))) (PrintsPart fault (length (begun lines)) (begun (lines ++ l ∷ [])))
+            (part_of fault (length (begun lines)) (begun (lines ++ l ∷ []))) old new
+            (subst (λ (s : List ℕ). Becomes old new (AppendsPast (length (begun lines)) s)) same_text (then_less (begun lines) (event_line (names_at own l.program) l) old mid new t.printed p)),
+      )
 
-        abbrev one_more : HasMailTold next es mail'
-        one_more = record {
-          lines = lines ++ l ∷ [];
-          host = n.stands;
-          met = t.told.met ++ n.met ∷ [];
-          took = took_on ends_event (TakesBeside boxes programs) detaches 0 0 h.turns.begun next.turns.begun lines t.told.met l n.met cs now es t.told.took
-              (begun_by_next 0 programs detaches boxes ds lines h (devices_of now) mail t.told.host next.turns.begun l.event begins)
-              (taken_beside boxes programs l n.met (left_at h.turns.begun next.turns.begun detaches now) es mail mail' (boxes_named h now mail t.told) n.takes);
-          known = known_more lines t.told.met l n.met t.told.host.tellers n.stands.tellers
-              (took_long ends_event (TakesBeside boxes programs) detaches 0 0 lines t.told.met cs h.turns.begun now t.told.took) (n.stands.wide ∙ sym t.told.host.wide) t.told.known n.meets;
-        }
+    -- the last line, or less of it
+    module _ (es : List Counted) (own : List Names) (are : map P.names_of own ≡ names) (world : ProtocolWorld programs detaches boxes ds lines (devices_of es))
+        (have : HaveMet t.told.host.tellers world.actors) (kept : es ≡ now) (none : LooksOut h.turns.shows.items h.turns.stage) where
+      abbrev last : List ℕ
+      last = last_line (length own) h.turns.begun
 
-        pub mail_told_on : (new : Option (List ℕ)) → Becomes mid new (Appends (event_line (names_at own l.program) l))
-            → (x : HasMailPrinted next es mail' old new) × (length x.told.lines ≡ length t.told.lines + 1)
-        mail_told_on new p = (
-          record {
-            told = one_more;
-            printed = subst (λ (s : List ℕ). Becomes old new (Appends s)) same_text (then_printed (begun lines) (event_line (names_at own l.program) l) old mid new t.printed p);
-          },
-          length-append t.told.lines (l ∷ []),
-        )
+      events : event_count lines ≡ h.turns.begun
+      events = let whole : event_count lines ≡ 0 + event_count lines = omega arith in whole ∙ events_begun 0 programs detaches boxes ds lines h (devices_of now) mail t.told.host none
 
-        pub mail_told_less : (fault : PutFault) (new : Option (List ℕ)) → Becomes mid new (AppendsLess (event_line (names_at own l.program) l)) → TellsMailPart fault parts detaches boxes cs es old new
-        mail_told_less fault new p = (
-          length (begun lines),
-          begun (lines ++ l ∷ []),
-          inl (are_begun next es mail' one_more es fault (left_there fault next.turns.begun detaches es) lines (l ∷ []) (omega arith) refl),
-          becomes_by (AppendsPast (length (begun lines)) (begun (lines ++ l ∷ []))) (PrintsPart fault (length (begun lines)) (begun (lines ++ l ∷ [])))
-              (part_of fault (length (begun lines)) (begun (lines ++ l ∷ []))) old new
-              (subst (λ (s : List ℕ). Becomes old new (AppendsPast (length (begun lines)) s)) same_text (then_less (begun lines) (event_line (names_at own l.program) l) old mid new t.printed p)),
-        )
+      same_last : last ≡ last_line (length parts) (event_count lines)
+      same_last =
+          ap (λ (n : ℕ). last_line n h.turns.begun) (sym (length-map own P.names_of) ∙ ap (λ (l : List T.Names). length l) are ∙ length-map parts part_names)
+          ∙ ap (last_line (length parts)) (sym events)
 
-      -- the last line, or less of it
-      module _ (es : List Counted) (own : List Names) (are : map P.names_of own ≡ names) (world : ProtocolWorld programs detaches boxes ds lines (devices_of es))
-          (have : HaveMet t.told.host.tellers world.actors) (kept : es ≡ now) (none : LooksOut h.turns.shows.items h.turns.stage) where
-        abbrev last : List ℕ
-        last = last_line (length own) h.turns.begun
+      abbrev are_told : AreMailTold parts detaches boxes cs es (begun lines ++ last)
+      are_told = record {
+        lines = lines;
+        met = t.told.met;
+        world = world;
+        meets = are_known lines t.told.met t.told.host.tellers world.actors (as_wide h now mail t.told world.actors world.starts) t.told.known have;
+        took =
+            subst (λ (n : ℕ). TookBeside boxes programs detaches 0 0 lines t.told.met cs n es) (sym events)
+            (subst (λ (c : List Counted). TookBeside boxes programs detaches 0 0 lines t.told.met cs h.turns.begun c) (sym kept) t.told.took);
+        text_is = ap (λ (s : List ℕ). begun lines ++ s) same_last;
+      }
 
-        events : event_count lines ≡ h.turns.begun
-        events = let whole : event_count lines ≡ 0 + event_count lines = omega arith in whole ∙ events_begun 0 programs detaches boxes ds lines h (devices_of now) mail t.told.host none
+      pub mail_told_whole : (new : Option (List ℕ)) → Becomes mid new (Appends last) → TellsMail parts detaches boxes cs es old new
+      mail_told_whole new p = (begun lines ++ last, are_told, then_printed (begun lines) last old mid new t.printed p)
 
-        same_last : last ≡ last_line (length parts) (event_count lines)
-        same_last =
-            ap (λ (n : ℕ). last_line n h.turns.begun) (sym (length-map own P.names_of) ∙ ap (λ (l : List T.Names). length l) are ∙ length-map parts part_names)
-            ∙ ap (last_line (length parts)) (sym events)
-
-        abbrev are_told : AreMailTold parts detaches boxes cs es (begun lines ++ last)
-        are_told = record {
-          lines = lines;
-          met = t.told.met;
-          world = world;
-          meets = are_known lines t.told.met t.told.host.tellers world.actors (as_wide h now mail t.told world.actors world.starts) t.told.known have;
-          took =
-              subst (λ (n : ℕ). TookBeside boxes programs detaches 0 0 lines t.told.met cs n es) (sym events)
-              (subst (λ (c : List Counted). TookBeside boxes programs detaches 0 0 lines t.told.met cs h.turns.begun c) (sym kept) t.told.took);
-          text_is = ap (λ (s : List ℕ). begun lines ++ s) same_last;
-        }
-
-        pub mail_told_whole : (new : Option (List ℕ)) → Becomes mid new (Appends last) → TellsMail parts detaches boxes cs es old new
-        mail_told_whole new p = (begun lines ++ last, are_told, then_printed (begun lines) last old mid new t.printed p)
-
-        pub mail_less_last : (fault : PutFault) (new : Option (List ℕ)) → Becomes mid new (AppendsLess last) → TellsMailPart fault parts detaches boxes cs es old new
-        mail_less_last fault new p = (
-          length (begun lines),
-          begun lines ++ last,
-          inr (record { told = are_told; least_is = refl }),
-          becomes_by (AppendsPast (length (begun lines)) (begun lines ++ last)) (PrintsPart fault (length (begun lines)) (begun lines ++ last))
-              (part_of fault (length (begun lines)) (begun lines ++ last)) old new (then_less (begun lines) last old mid new t.printed p),
-        )
+      pub mail_less_last : (fault : PutFault) (new : Option (List ℕ)) → Becomes mid new (AppendsLess last) → TellsMailPart fault parts detaches boxes cs es old new
+      mail_less_last fault new p = (
+        length (begun lines),
+        begun lines ++ last,
+        inr (record { told = are_told; least_is = refl }),
+        becomes_by (AppendsPast (length (begun lines)) (begun lines ++ last)) (PrintsPart fault (length (begun lines)) (begun lines ++ last))
+            (part_of fault (length (begun lines)) (begun lines ++ last)) old new (then_less (begun lines) last old mid new t.printed p),
+      )

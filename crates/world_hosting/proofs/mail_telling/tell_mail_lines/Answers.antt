@@ -11,7 +11,6 @@ use Rattle.many_host.proofs.MailFew.{few_mail_lines}
 use Rattle.transcript.specs.Printing.{names_of}
 use Rattle.world_hosting.specs.Counts.{counted}
 use Rattle.world_hosting.specs.Worlds.{world_program, world_programs}
-use Rattle.world_hosting.proofs.MailBegun.{host_begins}
 use Rattle.world_hosting.proofs.MailHosted.{mail_host_seen, mail_line_counted, mail_line_told, mail_world_counted, no_mail_told}
 use Rattle.world_hosting.proofs.MailPrinted.{mail_first, mail_less_last, mail_so_far, mail_told_less, mail_told_on, mail_told_whole}
 use Rattle.world_hosting.proofs.Printed.{has_failed, if_err, line_begins, none_left, on_ok, within_names}
@@ -39,7 +38,7 @@ telling-preserved g c = record {
       let counts = mail_line_counted (λ z. (goal.Device-dyn g z).seen z.1) (λ z. (goal.Device-dyn g z).faults z.1) (world_programs parts) detaches boxes ds t.told.lines t.told.host.tellers _ _ _ (line_of c.in-Some.line) c.next.new.devices c.next.new.self c.next.new.mail next in
       let begins = line_begins _ _ _ c.in-Ok.next c.in-Some.line c.in-Some.is c.in-Ok.ensures.begun in
       let more =
-      mail_told_on parts detaches boxes _ (host_begins 0 (world_programs parts) detaches boxes ds) c.telling.host _ c.telling.mail _ _ t c.next.new.self _ c.next.new.mail (map names_of c.args.names.now) b.names_are
+      mail_told_on parts detaches boxes _ c.telling.host _ c.telling.mail _ _ t c.next.new.self _ c.next.new.mail (map names_of c.args.names.now) b.names_are
       (line_of c.in-Some.line) counts begins _ c.in_default-put_line.ensures.printed in
       (more.0, omega (arith, more.1, so_far.1));
   range = c.in-Ok.ensures.range;
@@ -51,7 +50,7 @@ pub returns-in_default-clause-part : goal.returns-in_default-clause-part
 returns-in_default-clause-part g c = λ parts detaches boxes b empty.
     let t = (c.telling.invariant.told parts detaches boxes b empty).0 in
     let ds = devices_of (counted (λ z. (goal.Device-dyn g z).seen z.1) (λ z. (goal.Device-dyn g z).faults z.1) c.args.devices.now) in
-    mail_so_far parts detaches boxes _ (host_begins 0 (world_programs parts) detaches boxes ds) c.telling.host _ c.telling.mail _ _ t _
+    mail_so_far parts detaches boxes _ c.telling.host _ c.telling.mail _ _ t _
     (c.next.ensures.left 0 (world_programs parts) detaches boxes ds t.told.lines
     (mail_host_seen (λ z. (goal.Device-dyn g z).seen z.1) (λ z. (goal.Device-dyn g z).faults z.1) (world_programs parts) detaches boxes ds t.told.lines c.telling.devices c.telling.host c.telling.mail t.told.host)
     (has_failed c.next.result c.in_default.not-Ok))
@@ -66,7 +65,7 @@ returns-in_default-next-clause-told g c = λ parts detaches boxes b empty.
     (mail_host_seen (λ z. (goal.Device-dyn g z).seen z.1) (λ z. (goal.Device-dyn g z).faults z.1) (world_programs parts) detaches boxes ds t.told.lines c.telling.devices c.telling.host c.telling.mail t.told.host)) in
     let both = mail_world_counted (λ z. (goal.Device-dyn g z).seen z.1) (λ z. (goal.Device-dyn g z).faults z.1) (world_programs parts) detaches boxes ds t.told.lines c.next.new.devices t.told.host.tellers (world.0, world.1) in
     on_ok c.put_last.result
-    (mail_told_whole parts detaches boxes _ (host_begins 0 (world_programs parts) detaches boxes ds) c.telling.host _ c.telling.mail _ _ t _ c.args.names.now b.names_are both.0 both.1 world.2
+    (mail_told_whole parts detaches boxes _ c.telling.host _ c.telling.mail _ _ t _ c.args.names.now b.names_are both.0 both.1 world.2
     (none_left _ _ c.in-Ok.next c.in_default-next.is c.in-Ok.ensures.none).1 _)
     (subst (λ (s : List ℕ). OnOk c.put_last.result (Becomes (g.S.Sink.taken c.telling.out) (g.S.Sink.taken c.put_last.new.out) (Appends s)))
     (λ k. last_line (length c.args.names.now) (c.events-events.ensures k)) c.put_last.ensures.printed)
@@ -81,7 +80,7 @@ returns-in_default-next-clause-part g c = λ parts detaches boxes b empty.
     (mail_host_seen (λ z. (goal.Device-dyn g z).seen z.1) (λ z. (goal.Device-dyn g z).faults z.1) (world_programs parts) detaches boxes ds t.told.lines c.telling.devices c.telling.host c.telling.mail t.told.host)) in
     let both = mail_world_counted (λ z. (goal.Device-dyn g z).seen z.1) (λ z. (goal.Device-dyn g z).faults z.1) (world_programs parts) detaches boxes ds t.told.lines c.next.new.devices t.told.host.tellers (world.0, world.1) in
     if_err _ c.put_last.result
-    (λ fault. mail_less_last parts detaches boxes _ (host_begins 0 (world_programs parts) detaches boxes ds) c.telling.host _ c.telling.mail _ _ t _ c.args.names.now b.names_are both.0 both.1 world.2
+    (λ fault. mail_less_last parts detaches boxes _ c.telling.host _ c.telling.mail _ _ t _ c.args.names.now b.names_are both.0 both.1 world.2
     (none_left _ _ c.in-Ok.next c.in_default-next.is c.in-Ok.ensures.none).1 fault _)
     (subst (λ (s : List ℕ). OnErr c.put_last.result (Becomes (g.S.Sink.taken c.telling.out) (g.S.Sink.taken c.put_last.new.out) (AppendsLess s)))
     (λ k. last_line (length c.args.names.now) (c.events-events.ensures k)) c.put_last.ensures.less)
@@ -96,7 +95,7 @@ returns-in-Err-clause-part g c = λ parts detaches boxes b empty.
     (mail_host_seen (λ z. (goal.Device-dyn g z).seen z.1) (λ z. (goal.Device-dyn g z).faults z.1) (world_programs parts) detaches boxes ds t.told.lines c.telling.devices c.telling.host c.telling.mail t.told.host)) in
     let counts = mail_line_counted (λ z. (goal.Device-dyn g z).seen z.1) (λ z. (goal.Device-dyn g z).faults z.1) (world_programs parts) detaches boxes ds t.told.lines t.told.host.tellers _ _ _ (line_of c.in-Some.line) c.next.new.devices c.next.new.self c.next.new.mail next in
     let begins = line_begins _ _ _ c.in-Ok.next c.in-Some.line c.in-Some.is c.in-Ok.ensures.begun in
-    mail_told_less parts detaches boxes _ (host_begins 0 (world_programs parts) detaches boxes ds) c.telling.host _ c.telling.mail _ _ t c.next.new.self _ c.next.new.mail (map names_of c.args.names.now) b.names_are
+    mail_told_less parts detaches boxes _ c.telling.host _ c.telling.mail _ _ t c.next.new.self _ c.next.new.mail (map names_of c.args.names.now) b.names_are
     (line_of c.in-Some.line) counts begins c.in-Err.fault _ c.in-Err.ensures.less
 
 pub next-requires-clause-tells : goal.next-requires-clause-tells

@@ -1,4 +1,4 @@
-use Rattle.std.proofs.Common.{◌≡◌, ℕ, List, length}
+use Rattle.std.proofs.Common.{◌≡◌, ◌-◌, ℕ, List, length}
 use Rattle.wa_model.specs.declared.answers.Detach.{Detach}
 use Rattle.mailbox_device.specs.Mail.{empty_mail}
 use Rattle.many_host.specs.Standing.{InRange}
@@ -18,3 +18,6 @@ invariant-telling g l = record {
   same_list : l.devices.list.ghost_name ≡ l.fn.devices.list.ghost_name;
   steady : g.S.Sink.faults l.out ≡ g.S.Sink.faults l.fn.out;
 }
+
+abbrev pub decreases-telling : goal.decreases-telling
+decreases-telling g l = 340282366920938463463374607431768211455 - l._told
