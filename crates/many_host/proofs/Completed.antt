@@ -1,10 +1,9 @@
 -- A turn that has begun, told to its end.
-use Rattle.std.proofs.Common.{arith, ◌≡◌, List, [], ◌∷◌, ◌++◌, Option, Some, None, Bool, true, false, ◌||◌, if◌then◌else◌, refl, sym, ap, ◌∙◌, subst}
+use Rattle.std.proofs.Common.{arith, ◌≡◌, List, [], ◌∷◌, ◌++◌, Bool, true, false, ◌||◌, if◌then◌else◌, refl, sym, ap, ◌∙◌, subst}
 use Rattle.std.specs.Prelude.{MatchBool}
-use Rattle.wa_model.specs.Outside.{AnswerLine, Call, Event, called, answered, paused, returned, ended, shown}
-use Rattle.wa_model.specs.Plan.{Outcome}
+use Rattle.wa_model.specs.Outside.{Event}
 use Rattle.wa_model.specs.Blocking.{Note, events_of}
-use Rattle.world_model.specs.World.{Device, Look, Program, CallsMeet, NoteMeets, behind_turn, call_in, ends_turn, events_with_looks, is_end, turn_of}
+use Rattle.world_model.specs.World.{Look, behind_turn, ends_turn, events_with_looks, is_end, turn_of}
 use Rattle.world_laws.proofs.Counting.{Ends}
 use Rattle.world_laws.proofs.Turns.{end_turn}
 use Rattle.many_host.specs.Turns.{EndsOnce, IsRest, ends_program}

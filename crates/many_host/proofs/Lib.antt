@@ -8,6 +8,7 @@ pub mod FewLines
 pub mod FewTurns
 pub mod Further
 pub mod KeptTables
+pub mod MailBegins
 pub mod MailBoxes
 pub mod MailFew
 pub mod MailKept
@@ -17,6 +18,14 @@ pub mod MailStories
 pub mod MailSums
 pub mod MailWorlds
 pub mod MetLines
+pub mod MailGot
+pub mod MailHeld
+pub mod MailLines
+pub mod MailNext
+pub mod MailStages
+pub mod MailStarts
+pub mod MailTells
+pub mod MailWaits
 pub mod Notes
 pub mod Numbers
 pub mod Origins

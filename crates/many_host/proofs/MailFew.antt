@@ -82,7 +82,7 @@ module _ (begun : ℕ) (programs : List Program) (detaches : List Detach) (boxes
   looks_shown : all_looks programs ≤ length h.shows
   looks_shown =
       let are = looks_are h.shows 0 programs
-          (λ i w there. let z = held_at i w there in looks_by i w z.0 z.1 z.3 ∙ ap (λ k. looks_of k h.shows) (let same : i ≡ 0 + i = omega arith in same)) in
+      (λ i w there. let z = held_at i w there in looks_by i w z.0 z.1 z.3 ∙ ap (λ k. looks_of k h.shows) (let same : i ≡ 0 + i = omega arith in same)) in
       let most = looks_few (length programs) 0 h.shows in
       omega (arith, are, most)
 

@@ -184,8 +184,8 @@ module _ (begun : ℕ) (programs : List Program) (detaches : List Detach) (boxes
           let all = ap (sum_of lines_by programs) x.after in
           let more = lines_on (length x.w.looks) x.t.told x.turn in
           let made = ap length x.made
-              ∙ length-map (events_with_looks x.w.looks x.turn) (λ (e : Event). line_at x.t.due x.i (told_pause (parks x.turn x.behind.receive) e))
-              ∙ lines_made x.w.looks x.turn in
+          ∙ length-map (events_with_looks x.w.looks x.turn) (λ (e : Event). line_at x.t.due x.i (told_pause (parks x.turn x.behind.receive) e))
+          ∙ lines_made x.w.looks x.turn in
           let none = ap (λ (b : Bool). end_lines b (length x.w.looks)) live in
           omega (arith, set, settle, all, more, made, none)
   event_adds number tellers c lines tellers' c' (tells_stall x) = (events, added)

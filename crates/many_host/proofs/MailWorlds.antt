@@ -1,8 +1,10 @@
 -- What a host with mailboxes has told, as a world's run.
-use Rattle.std.proofs.Common.{arith, ◌≡◌, ℕ, List, ◌++◌, map, drop, Some, slice_get, sym, subst, append_assoc}
+use Rattle.std.proofs.Common.{arith, ◌≡◌, ℕ, List, Option, Some, None, slice_get, sym, subst, ◌++◌, map, drop, append_assoc}
+use Rattle.std.specs.Prelude.{MatchOption}
 use Rattle.std.specs.List.{AllZip}
 use Rattle.std.proofs.lemmas.Option.{slice_get_within}
 use Rattle.wa_model.specs.declared.answers.Detach.{Detach}
+use Rattle.wa_model.specs.declared.events.Line.{Line as LineValue}
 use Rattle.wa_model.specs.Outside.{Line}
 use Rattle.world_model.specs.World.{Device, Program, line_at}
 use Rattle.world_laws.proofs.Places.{item, zipped}
@@ -13,13 +15,16 @@ use Rattle.mailbox_device.specs.Mail.{Mail}
 use Rattle.mail_laws.specs.MailWorld.{ProtocolWorldFrom}
 use Rattle.mail_laws.specs.Told.{HasStory, HaveEnded, HaveMet, Teller}
 use Rattle.mail_laws.proofs.GoneOn.{told_goes_on}
-use Rattle.mail_laws.proofs.Prepared.{all_told_is_world}
-use Rattle.many_host.specs.MailStanding.{AllTold, StandingFrom, common_of}
-use Rattle.many_host.specs.Hosts.{memory_of}
-use Rattle.many_host.specs.Standing.{Held, looks_at}
-use Rattle.many_host.specs.ToldMail.{BeginsMailWorld, MailToldBegins, MailToldWhole}
+use Rattle.many_host.specs.MailHosts.{HostTellsNext}
+use Rattle.many_host.specs.MailStanding.{AllTold, StandingFrom, TellsNext, common_of}
+use Rattle.many_host.specs.Standing.{Held, held_of, looks_at}
+use Rattle.many_host.specs.ToldMail.{MailToldBegins, MailToldWhole, BeginsMailWorld}
+use Rattle.many_host.specs.declared.host.Host.{Host}
 use Rattle.many_host.specs.declared.hosted.Hosted.{Hosted}
 use Rattle.many_host.specs.declared.turn_taking.Stage.{Stage}
+use Rattle.many_host.specs.declared.turn_taking.Turns.{Turns}
+use Rattle.mail_laws.proofs.Prepared.{all_told_is_world}
+use Rattle.many_host.specs.Hosts.{memory_of}
 use Rattle.many_host.specs.declared.turn_taking.Stage.TheVariants.{Between, Showing}
 use Rattle.many_host.proofs.MailStories.{held_has_story}
 
@@ -58,3 +63,20 @@ module _ (begun : ℕ) (programs : List Program) (detaches : List Detach) (boxes
       let run = mail_told_begins begun programs detaches boxes ds ds' mail s.count last (lines ++ rest) s.tellers s.at.2 (stories_held (Showing turn from) s) in
       let both = subst (λ (l : List Line). (world : ProtocolWorldFrom begun programs detaches boxes ds l run.1) × HaveMet s.tellers world.actors) (append_assoc lines rest run.0) (run.2, run.3) in
       (rest ++ run.0, run.1, both.0, both.1)
+
+-- ---- a host
+
+-- what it tells next
+pub host_tells_next : (begun : ℕ) (programs : List Program) (detaches : List Detach) (boxes : List (List ℕ)) (ds : List Device) (lines : List Line) (tellers : List Teller)
+    (old left new : List Counted) (mail : Mail) (h : Host) (ds' : List Device) (mail' : Mail) (result : Option LineValue)
+    → TellsNext begun programs detaches boxes ds lines tellers old left new mail h.turns ds' mail' result
+    → HostTellsNext begun programs detaches boxes ds lines tellers old left new mail h ds' mail' result
+host_tells_next begun programs detaches boxes ds lines tellers old left new mail h ds' mail' None t =
+    whole_told begun programs detaches boxes ds lines (held_of h.turns) h.turns.last ds' mail' tellers old new t
+host_tells_next begun programs detaches boxes ds lines tellers old left new mail h ds' mail' (Some line) t = t
+
+-- where there is no line, the host and the mailboxes are as they were
+pub same_mail_host : (now before : Turns Hosted) (mail mail' : Mail) (result : Option LineValue) → MatchOption result ((now ≡ before) × (mail' ≡ mail)) (λ l. Unit {0})
+    → MatchOption result ((◌≡◌ {A = Host} (record { turns = now }) (record { turns = before })) × (mail' ≡ mail)) (λ l. Unit {0})
+same_mail_host now before mail mail' None same = (λ k. record { turns = same.0 k }, same.1)
+same_mail_host now before mail mail' (Some line) same = tt

@@ -246,4 +246,3 @@ HaveGot (s ∷ ss) xs xs' = (x x' : Hosted) × (slice_get xs s.program ≡ Some 
 abbrev pub dues_settled : (due : ℕ) → List Settled → List (Option ℕ) → List (Option ℕ)
 dues_settled due [] dues = dues
 dues_settled due (s ∷ ss) dues = dues_settled due ss (slice_set dues s.program (Some due))
-

@@ -88,7 +88,7 @@ MailTurnEnds =
     (w : Program) (t : Teller) (x : Note) (now : Amid)
     → TellsOnFrom begun programs detaches boxes ds count i due lines tellers now → slice_get programs i ≡ Some w → slice_get tellers i ≡ Some t → ends_turn x.event ≡ true
     → Tells begun programs detaches boxes ds (suc count) (lines ++ line_at due i (told_pause (parks (x ∷ []) now.receive) x.event) ∷ map (line_at due i) (looks_after w.looks x x.event))
-      (slice_set tellers i (with_last t x now.receive)) (common_of now.devices (mail_behind i (parks (x ∷ []) now.receive) now) due)
+    (slice_set tellers i (with_last t x now.receive)) (common_of now.devices (mail_behind i (parks (x ∷ []) now.receive) now) due)
     × MailStands boxes (slice_set tellers i (with_last t x now.receive)) (mail_behind i (parks (x ∷ []) now.receive) now)
     × MeetMore i [] tellers (slice_set tellers i (with_last t x now.receive))
 

@@ -1,6 +1,6 @@
 //! `Host`: several programs on one thread, told line by line.
 
-ghost use Rattle.std.specs.Prelude.{◌≡◌, ◌≤◌, ◌<◌, ◌^◌, ℕ, List, [], All, IfOk, IsErr, MatchOption, Some, is_none, length, map, slice_get};
+ghost use Rattle.std.specs.Prelude.{◌≡◌, ◌≤◌, ◌<◌, ◌^◌, ℕ, List, [], All, IfOk, IsErr, MatchOption, Some, is_some, length, map, slice_get};
 ghost use Rattle.std.specs.Bool.{OnTrue, OnFalse};
 ghost use Rattle.std.specs.Option.{option_map};
 ghost use Rattle.wa_model.specs.Outside.{Line as WorldLine};
@@ -8,11 +8,14 @@ ghost use Rattle.world_model.specs.World.{Device, Program as WorldProgram};
 ghost use Rattle.device_port.specs.Listed.{of_all};
 ghost use Rattle.host_laws.specs.Supplies.{IsLent};
 ghost use Rattle.event_order.specs.Dues.{HaveEnded};
+ghost use Rattle.mailbox_device.specs.Mail.{empty_mail};
 ghost use Rattle.snapshot_store.specs.Parts.{CountsFit};
 ghost use Rattle.snapshot_store.specs.Views.{record_of, snapshot_of};
 ghost use Rattle.many_host.specs.Calls.{BegunNext, left_at, AreLeft};
 ghost use Rattle.many_host.specs.Standing.{InRange, IsTelling, LooksOut, due_told, held_of};
 ghost use Rattle.many_host.specs.Hosts.{AreResumed, AreSetUp, HostNext, HostNextFrom, HostTold, HostToldFrom, dues_left, follows, has_ended, memory_of};
+ghost use Rattle.many_host.specs.MailHosts.{HostTellsFrom, HostTellsNext, NoneWaits};
+ghost use Rattle.many_host.specs.MailStanding.{AllOver, IsTelling as IsTellingMail};
 ghost use Rattle.many_host.specs.Saving.{CanBeSaved, IsSaved, saved_of};
 ghost use Rattle.many_host.specs.Turns.{unless};
 
@@ -21,6 +24,7 @@ use crate::saving::saved_records;
 use crate::turn_taking::{Turns, first_dues};
 use device_port::Devices;
 use event_order::Show;
+use mailbox_device::Mailboxes;
 use pause_host::Program;
 use snapshot_store::Snapshot;
 use std::alloc::{AllocError, Global};
@@ -45,6 +49,8 @@ impl<'m> Host<'m> {
         ensures range { IfOk result (λ h. InRange h.turns) }
         ensures begun { IfOk result (λ h. h.turns.begun ≡ 0) }
         ensures told { (ws : List WorldProgram) (ds : List Device) → AreSetUp ws shows.items programs.entry.items → IfOk result (λ h. HostTold ws detaches.items ds [] h ds) }
+        ensures mail { (ws : List WorldProgram) (ds : List Device) (names : List (List ℕ)) → AreSetUp ws shows.items programs.entry.items → NoneWaits programs.entry.items
+            → IfOk result (λ h. HostTellsFrom 0 ws detaches.items names ds [] h ds (empty_mail names)) }
     {
         let held = held_programs(alloc, programs)?;
         let dues = first_dues(alloc, &held)?;
@@ -73,6 +79,8 @@ impl<'m> Host<'m> {
         ensures begun { IfOk result (λ h. h.turns.begun ≡ events) }
         ensures told { (ws : List WorldProgram) (ds : List Device) → AreResumed ws shows.items programs.entry.items dues.items ended.items
             → IfOk result (λ h. HostToldFrom events ws detaches.items ds [] h ds) }
+        ensures mail { (ws : List WorldProgram) (ds : List Device) (names : List (List ℕ)) → AreResumed ws shows.items programs.entry.items dues.items ended.items → NoneWaits programs.entry.items
+            → IfOk result (λ h. HostTellsFrom events ws detaches.items names ds [] h ds (empty_mail names)) }
     {
         let held = held_programs(alloc, programs)?;
         let dues = resumed_dues(alloc, &dues, &ended)?;
@@ -84,7 +92,10 @@ impl<'m> Host<'m> {
     /// The next line, with the tick at which its event began; None exactly where all programs have ended and all shows are out, and the
     /// host is then as it was. A new call of a bound import asks its device once, and a device's fault is told only where that device's
     /// count rose. After want of memory it isn't called again.
-    pub fn next_without_mail(&mut self, devices: &mut Devices<'_>) -> Result<Option<Line>, AllocError>
+    pub fn next_without_mail(
+        &mut self,
+        devices: &mut Devices<'_>,
+    ) -> Result<Option<Line>, AllocError>
         requires lent { IsLent }
         requires range { InRange self.old.turns }
         requires tells { IsTelling follows has_ended memory_of (held_of self.old.turns) (of_all seen devices.old) self.old.turns.stage }
@@ -117,6 +128,38 @@ impl<'m> Host<'m> {
         self.turns.next(devices)
     }
 
+    /// The next line, with the tick at which its event began, of programs that ask mailboxes too. A program that receives at an empty mailbox
+    /// parks with its next pause, and goes on once it is sent a value; where none is due the first that is parked ends there, and tells it.
+    /// None exactly where all programs have ended and all shows are out, and host, devices and mailboxes are then as they were. After want of
+    /// memory it isn't called again.
+    pub fn next(
+        &mut self,
+        devices: &mut Devices<'_>,
+        mail: &mut Mailboxes,
+    ) -> Result<Option<Line>, AllocError>
+        requires lent { IsLent }
+        requires range { InRange self.old.turns }
+        requires tells { IsTellingMail (held_of self.old.turns) self.old.turns.last (of_all seen devices.old) mail.old self.old.turns.stage }
+        ensures range { IfOk result (λ line. InRange self.new.turns) }
+        ensures same_list { devices.new.list.ghost_name ≡ devices.old.list.ghost_name }
+        ensures told { (begun : ℕ) (programs : List WorldProgram) (detaches : List Detach) (boxes : List (List ℕ)) (ds : List Device) (lines : List WorldLine)
+            (told : HostTellsFrom begun programs detaches boxes ds lines self.old (of_all seen devices.old) mail.old)
+            → IfOk result (HostTellsNext begun programs detaches boxes ds lines told.tellers (of_all (λ d. record { device = seen d; faults = faults d }) devices.old)
+            (left_at self.old.turns.begun self.new.turns.begun detaches (of_all (λ d. record { device = seen d; faults = faults d }) devices.old))
+            (of_all (λ d. record { device = seen d; faults = faults d }) devices.new) mail.old self.new (of_all seen devices.new) mail.new) }
+        ensures left { (begun : ℕ) (programs : List WorldProgram) (detaches : List Detach) (boxes : List (List ℕ)) (ds : List Device) (lines : List WorldLine)
+            → HostTellsFrom begun programs detaches boxes ds lines self.old (of_all seen devices.old) mail.old
+            → IsErr result → AreLeft self.old.turns.begun detaches (of_all (λ d. record { device = seen d; faults = faults d }) devices.old)
+            (of_all (λ d. record { device = seen d; faults = faults d }) devices.new) }
+        ensures none { IfOk result (λ line. MatchOption line (AllOver self.old.turns × LooksOut self.old.turns.shows.items self.old.turns.stage)
+            (λ l. AllOver self.old.turns → LooksOut self.old.turns.shows.items self.old.turns.stage → ⊥)) }
+        ensures begun { IfOk result (λ line. BegunNext self.old.turns.stage self.old.turns.begun self.new.turns.begun line) }
+        ensures goes_on { (LooksOut self.old.turns.shows.items self.old.turns.stage → ⊥) → self.new.turns.begun ≡ self.old.turns.begun }
+        ensures same { IfOk result (λ line. MatchOption line ((self.new ≡ self.old) × (mail.new ≡ mail.old)) (λ l. Unit {0})) }
+    {
+        self.turns.next_with_mail(devices, mail)
+    }
+
     /// How many events have begun.
     pub fn events(&self) -> u64
         ensures { result ≡ self.now.turns.begun }
@@ -124,7 +167,7 @@ impl<'m> Host<'m> {
         self.turns.events()
     }
 
-    /// The tick at which a program is due; 0 where it has ended.
+    /// The tick at which a program is due; 0 where it has ended, or is parked.
     pub fn due(&self, program: u32) -> u64
         requires { program < length self.now.turns.dues.items }
         ensures { Some result ≡ due_told (slice_get self.now.turns.dues.items program) }
@@ -132,12 +175,12 @@ impl<'m> Host<'m> {
         self.turns.due(program as usize)
     }
 
-    /// Whether a program has ended.
-    pub fn has_ended(&self, program: u32) -> bool
+    /// Whether a program is due: not while it is parked, and never once it has ended.
+    pub fn is_due(&self, program: u32) -> bool
         requires { program < length self.now.turns.dues.items }
-        ensures { Some result ≡ option_map is_none (slice_get self.now.turns.dues.items program) }
+        ensures { Some result ≡ option_map is_some (slice_get self.now.turns.dues.items program) }
     {
-        self.turns.dues()[program as usize].is_none()
+        self.turns.dues()[program as usize].is_some()
     }
 
     /// Whether the next line, where there is one, begins an event.

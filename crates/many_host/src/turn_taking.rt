@@ -31,15 +31,15 @@ pub(crate) enum Stage {
 /// last had the tick `last`, which is 0 before the first.
 #[derive(Drop)]
 pub struct Turns<T> {
-    alloc: Global,
-    programs: Vec<T>,
-    dues: Vec<Option<u64>>,
-    detaches: Vec<Detach>,
-    shows: Vec<Show>,
-    begun: u64,
-    earlier: u64,
-    last: u64,
-    stage: Stage,
+    pub(crate) alloc: Global,
+    pub(crate) programs: Vec<T>,
+    pub(crate) dues: Vec<Option<u64>>,
+    pub(crate) detaches: Vec<Detach>,
+    pub(crate) shows: Vec<Show>,
+    pub(crate) begun: u64,
+    pub(crate) earlier: u64,
+    pub(crate) last: u64,
+    pub(crate) stage: Stage,
 }
 
 impl<T: Teller + Drop> Turns<T> {
@@ -61,6 +61,9 @@ impl<T: Teller + Drop> Turns<T> {
         ensures begun { result.begun ≡ begun }
         ensures stands { (ws : List Program) (ds : List Device) → AllStart T.follows T.has_ended shows.items ws programs.items dues.items
             → StandingFrom begun T.follows T.has_ended T.memory ws detaches.items ds [] (held_of result) ds result.stage }
+        ensures held { held_of result ≡ record { programs = programs.items; dues = dues.items; detaches = detaches.items; shows = shows.items; begun = begun; earlier = begun } }
+        ensures last { result.last ≡ 0 }
+        ensures between { result.stage ≡ Stage.Between }
     {
         Turns {
             alloc,
@@ -90,14 +93,14 @@ impl<T: Teller + Drop> Turns<T> {
         self.programs.as_slice()
     }
 
-    /// When each is due that hasn't ended.
+    /// When each is due: not once it has ended, nor while it is parked.
     pub fn dues(&self) -> &[Option<u64>]
         ensures { result.now ≡ self.now.dues.items }
     {
         self.dues.as_slice()
     }
 
-    /// When a program is due; 0 where it has ended.
+    /// When a program is due; 0 where it has ended, or is parked.
     pub fn due(&self, program: usize) -> u64
         requires { program < length self.now.dues.items }
         ensures { Some result ≡ due_told (slice_get self.now.dues.items program) }

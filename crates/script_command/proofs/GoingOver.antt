@@ -46,20 +46,20 @@ texts_of xs = map (λ (x : Part). x.text) xs
 abbrev pub HasAlike : Files → Files → ProgramText → Type 0
 HasAlike files files' t = files' t.path ≡ files t.path
 
-pub go_over : (files files' : Files) (xs ys : List Part) → texts_of ys ≡ texts_of xs → All (HasAlike files files') (texts_of xs) → All HasRanges (texts_of xs) → All (IsStage Run (Some files)) xs
-    → All (IsStage Run (Some files')) ys → GoOver files xs ys
-go_over files files' [] [] same there ranges st st' = record { sources = []; are_sources = tt; rewritten = tt; over = tt; names = tt }
-go_over files files' [] (y ∷ ys) same there ranges st st' = cc
-go_over files files' (x ∷ xs) [] same there ranges st st' = cc
-go_over files files' (x ∷ xs) (y ∷ ys) same there ranges st st' =
+pub go_over : (files files' : Files) (boxes : List (List ℕ)) (xs ys : List Part) → texts_of ys ≡ texts_of xs → All (HasAlike files files') (texts_of xs) → All HasRanges (texts_of xs) → All (IsStage Run boxes (Some files)) xs
+    → All (IsStage Run boxes (Some files')) ys → GoOver files xs ys
+go_over files files' boxes [] [] same there ranges st st' = record { sources = []; are_sources = tt; rewritten = tt; over = tt; names = tt }
+go_over files files' boxes [] (y ∷ ys) same there ranges st st' = cc
+go_over files files' boxes (x ∷ xs) [] same there ranges st st' = cc
+go_over files files' boxes (x ∷ xs) (y ∷ ys) same there ranges st st' =
     let head : y.text ≡ x.text = cc in
     let tail : texts_of ys ≡ texts_of xs = cc in
     let one =
-    one_source files files' x y head (All-head (HasAlike files files') x.text (texts_of xs) there) (All-head HasRanges x.text (texts_of xs) ranges)
-    (All-head (IsStage Run (Some files)) x xs st) (All-head (IsStage Run (Some files')) y ys st') in
+    one_source files files' boxes x y head (All-head (HasAlike files files') x.text (texts_of xs) there) (All-head HasRanges x.text (texts_of xs) ranges)
+    (All-head (IsStage Run boxes (Some files)) x xs st) (All-head (IsStage Run boxes (Some files')) y ys st') in
     let rest =
-    go_over files files' xs ys tail (All-tail (HasAlike files files') x.text (texts_of xs) there) (All-tail HasRanges x.text (texts_of xs) ranges) (All-tail (IsStage Run (Some files)) x xs st)
-    (All-tail (IsStage Run (Some files')) y ys st') in
+    go_over files files' boxes xs ys tail (All-tail (HasAlike files files') x.text (texts_of xs) there) (All-tail HasRanges x.text (texts_of xs) ranges) (All-tail (IsStage Run boxes (Some files)) x xs st)
+    (All-tail (IsStage Run boxes (Some files')) y ys st') in
     record {
       sources = one.of ∷ rest.sources;
       are_sources = (one.is_source, rest.are_sources);

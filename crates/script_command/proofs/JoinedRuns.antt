@@ -20,7 +20,7 @@ use Rattle.many_host.proofs.Numbers.{sum_behind}
 use Rattle.world_hosting.specs.OriginalRuns.{originals_for}
 use Rattle.world_hosting.specs.Worlds.{Part, part_names, turn_count, world_programs}
 use Rattle.world_hosting.proofs.TurnCounts.{turns_append}
-use Rattle.script_command.specs.Playing.{HasScript, IsStage, Play, detaches_in}
+use Rattle.script_command.specs.Playing.{HasScript, IsStage, Play, boxes_in, detaches_in}
 use Rattle.script_command.specs.RunOriginals.{IsSource, original_names}
 use Rattle.script_command.specs.declared.way.Way.TheVariants.{Run}
 use Rattle.script_command.proofs.OneOriginal.{some_bytes}
@@ -70,8 +70,9 @@ module _ (most : ℕ) (c c' : Call) (text text' : List ℕ) (h : GoesOnWith most
 
   are : GoOver h.files xs ys
   are =
-      go_over h.files h.files' xs ys texts (subst (All (HasAlike h.files h.files')) (sym play.stages.texts_are) h.alike.modules) (in_range c.files c.script play)
-      (subst (λ (f : Option Files). All (IsStage Run f) xs) h.first play.stages.each) (subst (λ (f : Option Files). All (IsStage Run f) ys) h.second play'.stages.each)
+      go_over h.files h.files' (boxes_in play.whole) xs ys texts (subst (All (HasAlike h.files h.files')) (sym play.stages.texts_are) h.alike.modules) (in_range c.files c.script play)
+      (subst (λ (f : Option Files). All (IsStage Run (boxes_in play.whole) f) xs) h.first play.stages.each)
+      (subst (λ (s : Script). All (IsStage Run (boxes_in s) (Some h.files')) ys) one (subst (λ (f : Option Files). All (IsStage Run (boxes_in play'.whole) f) ys) h.second play'.stages.each))
 
   abbrev originals : List Original
   originals = originals_for are.sources xs

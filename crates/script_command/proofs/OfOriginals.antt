@@ -5,7 +5,7 @@ use Rattle.event_order.specs.Left.{Counted}
 use Rattle.world_hosting.specs.Worlds.{AreTold}
 use Rattle.script_command.specs.declared.way.Way.{Way}
 use Rattle.script_command.specs.declared.way.Way.TheVariants.{Host, Run}
-use Rattle.script_command.specs.Playing.{Play, detaches_in}
+use Rattle.script_command.specs.Playing.{Play, boxes_in, detaches_in}
 use Rattle.script_command.specs.OfOriginals.{OfOriginals}
 use Rattle.world_hosting.proofs.Endings.{told_ends}
 use Rattle.world_hosting.proofs.Originals.{told_of_originals}
@@ -17,7 +17,7 @@ use Rattle.script_command.proofs.Hosted.{hosts_of_originals}
 runs_originals : (files : Option Files) (name : List ℕ) (play : Play Run files name) (old new : List Counted) (text : List ℕ)
     (told : AreTold play.parts (detaches_in play.whole) old new text) → RunsOriginals files name play old new text told
 runs_originals files name play old new text told =
-    let have = sources_of files play.parts play.stages.each (in_range files name play) in
+    let have = sources_of files (boxes_in play.whole) play.parts play.stages.each (in_range files name play) in
     record {
       sources = have.sources;
       are_sources = have.are_sources;

@@ -38,10 +38,10 @@ pub record OfOneSource (files : Files) (x y : Part) : Type 0 where
   pub second : StandsIn (original_for of x) (world_program y)
   pub names : SameImports of y
 
-module _ (files files' : Files) (t : ProgramText) (there : files' t.path ≡ files t.path) (ranges : HasRanges t) where
+module _ (files files' : Files) (boxes : List (List ℕ)) (t : ProgramText) (there : files' t.path ≡ files t.path) (ranges : HasRanges t) where
   -- two programs of this text
-  module _ (p q : Module) (listed listed' : Option (List Bool)) (given given' : SetUp) (is : IsStage Run (Some files) (part p listed t given))
-      (is' : IsStage Run (Some files') (part q listed' t given')) where
+  module _ (p q : Module) (listed listed' : Option (List Bool)) (given given' : SetUp) (is : IsStage Run boxes (Some files) (part p listed t given))
+      (is' : IsStage Run boxes (Some files') (part q listed' t given')) where
     abbrev x : Part
     x = part p listed t given
 
@@ -74,14 +74,14 @@ module _ (files files' : Files) (t : ProgramText) (there : files' t.path ≡ fil
     same_given : given ≡ given'
     same_given =
         let rules =
-        same_rules true p q t
+        same_rules true boxes p q t
         (one_written s bytes runs.source runs'.source runs.which runs'.which p q runs.rewritable runs'.rewritable runs.rewrites runs'.rewrites) in
         ok_given given given' (sym is.set_up ∙ rules ∙ is'.set_up)
 
     abbrev of : Source
     of = record { original = runs.source; settings = s }
 
-    rewritten : (r : Module) (told : Option (List Bool)) (g : SetUp) → Rewrites runs.source s r → told ≡ Some (Listed runs.source s) → set_up_rules true r t ≡ Ok g → IsRewritten of (part r told t g)
+    rewritten : (r : Module) (told : Option (List Bool)) (g : SetUp) → Rewrites runs.source s r → told ≡ Some (Listed runs.source s) → set_up_rules true boxes r t ≡ Ok g → IsRewritten of (part r told t g)
     rewritten r told g rewrites is_listed set_up = record {
       rewrites = rewrites;
       well_formed = runs.well_formed;
@@ -90,6 +90,7 @@ module _ (files files' : Files) (t : ProgramText) (there : files' t.path ≡ fil
       heeds = heeds (policy_for t.policy_live) (choice_said t.list t.ignore_imports) s is.module_is.3.1;
       listed = is_listed;
       ranges = ranges;
+      boxes = boxes;
       set_up = set_up;
     }
 
@@ -116,10 +117,10 @@ module _ (files files' : Files) (t : ProgramText) (there : files' t.path ≡ fil
     }
 
 -- So do programs whose texts are one.
-pub one_source : (files files' : Files) (x y : Part) → y.text ≡ x.text → files' x.text.path ≡ files x.text.path → HasRanges x.text → IsStage Run (Some files) x → IsStage Run (Some files') y
+pub one_source : (files files' : Files) (boxes : List (List ℕ)) (x y : Part) → y.text ≡ x.text → files' x.text.path ≡ files x.text.path → HasRanges x.text → IsStage Run boxes (Some files) x → IsStage Run boxes (Some files') y
     → OfOneSource files x y
-one_source files files' x y same there ranges is is' =
+one_source files files' boxes x y same there ranges is is' =
     let z : Part = part y.source y.listed x.text y.given in
     let made : y ≡ z = ap (λ (t : ProgramText). part y.source y.listed t y.given) same in
     subst (OfOneSource files x) (sym made)
-    (of_one_source files files' x.text there ranges x.source y.source x.listed y.listed x.given y.given is (subst (IsStage Run (Some files')) made is'))
+    (of_one_source files files' boxes x.text there ranges x.source y.source x.listed y.listed x.given y.given is (subst (IsStage Run boxes (Some files')) made is'))

@@ -63,51 +63,51 @@ none_left (x ∷ xs) e = absurd (omega (arith, e))
 -- ---- programs so far
 
 -- These are set up over their modules, and the texts to come stand behind theirs.
-pub record SoFar (way : Way) (files : Option Files) (ps : Programs) (rest texts : List ProgramText) : Type 0 where
+pub record SoFar (way : Way) (boxes : List (List ℕ)) (files : Option Files) (ps : Programs) (rest texts : List ProgramText) : Type 0 where
   pub texts_are : map text_in ps.planned.items ++ rest ≡ texts
-  pub stages : All (IsStage way files) (parts_of ps.modules.items ps.planned.items)
+  pub stages : All (IsStage way boxes files) (parts_of ps.modules.items ps.planned.items)
   pub each : AllZip CanStage ps.modules.items ps.planned.items
 
-module _ (way : Way) (files : Option Files) where
-  pub none_so_far : (texts : List ProgramText) (ps : Programs) → ps.modules.items ≡ [] → ps.planned.items ≡ [] → SoFar way files ps texts texts
+module _ (way : Way) (boxes : List (List ℕ)) (files : Option Files) where
+  pub none_so_far : (texts : List ProgramText) (ps : Programs) → ps.modules.items ≡ [] → ps.planned.items ≡ [] → SoFar way boxes files ps texts texts
   none_so_far texts ps m p = record {
     texts_are = ap (λ (xs : List Planned). map text_in xs ++ texts) p;
-    stages = subst (λ (xs : List ModuleValue). All (IsStage way files) (parts_of xs ps.planned.items)) (sym m) (All-nil (IsStage way files));
+    stages = subst (λ (xs : List ModuleValue). All (IsStage way boxes files) (parts_of xs ps.planned.items)) (sym m) (All-nil (IsStage way boxes files));
     each = subst (λ (xs : List ModuleValue). AllZip CanStage xs ps.planned.items) (sym m) (subst (λ (xs : List Planned). AllZip CanStage [] xs) (sym p) tt);
   }
 
-  pub one_more : (old new : Programs) (t : ProgramText) (rest texts : List ProgramText) → SoFar way files old (t ∷ rest) texts → OpensNext way files t old new → SoFar way files new rest texts
+  pub one_more : (old new : Programs) (t : ProgramText) (rest texts : List ProgramText) → SoFar way boxes files old (t ∷ rest) texts → OpensNext way boxes files t old new → SoFar way boxes files new rest texts
   one_more old new t rest texts s o =
       let ms = old.modules.items in
       let ps = old.planned.items in
       record {
         texts_are = ap (λ (xs : List Planned). map text_in xs ++ rest) o.planned_are ∙ ap (λ (ts : List ProgramText). ts ++ rest) (map-append text_in ps (o.planned ∷ []))
             ∙ append_assoc (map text_in ps) (text_in o.planned ∷ []) rest ∙ ap (λ (u : ProgramText). map text_in ps ++ u ∷ rest) o.text_is ∙ s.texts_are;
-        stages = subst (λ (xs : List ModuleValue). All (IsStage way files) (parts_of xs new.planned.items)) (sym o.modules_are)
-            (subst (λ (xs : List Planned). All (IsStage way files) (parts_of (ms ++ o.valid ∷ []) xs)) (sym o.planned_are)
-            (subst (All (IsStage way files)) (sym (parts_more ms ps o.valid o.planned s.each))
-            (All-append (IsStage way files) (parts_of ms ps) (part_of o.valid o.planned ∷ []) s.stages
-            (All-cons (IsStage way files) (part_of o.valid o.planned) [] o.stage (All-nil (IsStage way files))))));
+        stages = subst (λ (xs : List ModuleValue). All (IsStage way boxes files) (parts_of xs new.planned.items)) (sym o.modules_are)
+            (subst (λ (xs : List Planned). All (IsStage way boxes files) (parts_of (ms ++ o.valid ∷ []) xs)) (sym o.planned_are)
+            (subst (All (IsStage way boxes files)) (sym (parts_more ms ps o.valid o.planned s.each))
+            (All-append (IsStage way boxes files) (parts_of ms ps) (part_of o.valid o.planned ∷ []) s.stages
+            (All-cons (IsStage way boxes files) (part_of o.valid o.planned) [] o.stage (All-nil (IsStage way boxes files))))));
         each = subst (λ (xs : List ModuleValue). AllZip CanStage xs new.planned.items) (sym o.modules_are)
             (subst (λ (xs : List Planned). AllZip CanStage (ms ++ o.valid ∷ []) xs) (sym o.planned_are) (zip_more CanStage ms ps o.valid o.planned s.each o.can));
       }
 
   -- the texts to come, as they are held
-  pub turned : (ps : Programs) (rest behind : List ProgramValue) (t : ProgramValue) (texts : List ProgramText) → rest ≡ t ∷ behind → SoFar way files ps (map program_of rest) texts
-      → SoFar way files ps (program_of t ∷ map program_of behind) texts
-  turned ps rest behind t texts e s = subst (λ (ts : List ProgramValue). SoFar way files ps (map program_of ts) texts) e s
+  pub turned : (ps : Programs) (rest behind : List ProgramValue) (t : ProgramValue) (texts : List ProgramText) → rest ≡ t ∷ behind → SoFar way boxes files ps (map program_of rest) texts
+      → SoFar way boxes files ps (program_of t ∷ map program_of behind) texts
+  turned ps rest behind t texts e s = subst (λ (ts : List ProgramValue). SoFar way boxes files ps (map program_of ts) texts) e s
 
-  pub ended : (ps : Programs) (rest : List ProgramValue) (texts : List ProgramText) → rest ≡ [] → SoFar way files ps (map program_of rest) texts → SoFar way files ps [] texts
-  ended ps rest texts e s = subst (λ (ts : List ProgramValue). SoFar way files ps (map program_of ts) texts) e s
+  pub ended : (ps : Programs) (rest : List ProgramValue) (texts : List ProgramText) → rest ≡ [] → SoFar way boxes files ps (map program_of rest) texts → SoFar way boxes files ps [] texts
+  ended ps rest texts e s = subst (λ (ts : List ProgramValue). SoFar way boxes files ps (map program_of ts) texts) e s
 
   -- what all texts have, the next has
-  pub next_has : (P : ProgramText → Type 0) (ps : Programs) (t : ProgramText) (rest texts : List ProgramText) → SoFar way files ps (t ∷ rest) texts → All P texts → P t
+  pub next_has : (P : ProgramText → Type 0) (ps : Programs) (t : ProgramText) (rest texts : List ProgramText) → SoFar way boxes files ps (t ∷ rest) texts → All P texts → P t
   next_has P ps t rest texts s all = one_of (map text_in ps.planned.items) (subst (All P) (sym s.texts_are) all) where
     one_of : (before : List ProgramText) → All P (before ++ t ∷ rest) → P t
     one_of [] h = All-head P t rest h
     one_of (u ∷ us) h = one_of us (All-tail P u (us ++ t ∷ rest) h)
 
-  pub all_opened : (ps : Programs) (texts : List ProgramText) → SoFar way files ps [] texts → AreOpened way files texts ps
+  pub all_opened : (ps : Programs) (texts : List ProgramText) → SoFar way boxes files ps [] texts → AreOpened way boxes files texts ps
   all_opened ps texts s =
       record { stages = record { texts_are = texts_of_parts ps.modules.items ps.planned.items s.each ∙ none_behind (map text_in ps.planned.items) ∙ s.texts_are; each = s.stages }; each = s.each }
     where
@@ -116,7 +116,7 @@ module _ (way : Way) (files : Option Files) where
       none_behind (t ∷ ts) = ap (λ (us : List ProgramText). t ∷ us) (none_behind ts)
 
   -- the next is reached
-  pub reached : (ps : Programs) (t : ProgramText) (rest texts : List ProgramText) → SoFar way files ps (t ∷ rest) texts → IsReached way files texts (length ps.planned.items) t
+  pub reached : (ps : Programs) (t : ProgramText) (rest texts : List ProgramText) → SoFar way boxes files ps (t ∷ rest) texts → IsReached way boxes files texts (length ps.planned.items) t
   reached ps t rest texts s = record {
     before = map text_in ps.planned.items;
     behind = rest;
@@ -127,7 +127,7 @@ module _ (way : Way) (files : Option Files) where
   }
 
   -- so many are there at most
-  pub few_so_far : (ps : Programs) (t : ProgramText) (rest texts : List ProgramText) → SoFar way files ps (t ∷ rest) texts → length texts ≤ 16 → length ps.planned.items + 1 ≤ 16
+  pub few_so_far : (ps : Programs) (t : ProgramText) (rest texts : List ProgramText) → SoFar way boxes files ps (t ∷ rest) texts → length texts ≤ 16 → length ps.planned.items + 1 ≤ 16
   few_so_far ps t rest texts s few =
       let n = length-map ps.planned.items text_in in
       let l = ap (λ (ts : List ProgramText). length ts) s.texts_are in
@@ -155,39 +155,39 @@ module _ (files : Option Files) (f f' : ℕ) where
   stops_unread R I name (Refused r) is why unread = inr (name, is, why, unread)
 
   -- a line that breaks a rule
-  pub line_stops : (way : Way) (number : ℕ) (t : ProgramText) (told : Result SetUp ScriptFault) (stop : Stop) → f' ≡ f → ((line rule : ℕ) → told ≡ Err (breaks line rule) → BreaksRule way files t line rule)
-      → BlamesLine told stop → BlamesNext way files f f' number t stop
-  line_stops way number t told Memory same why b = inl same
-  line_stops way number t told Sink same why b = absurd b
-  line_stops way number t told (Refused r) same why b = inl ((bad_line b.0 b.1, why b.0 b.1 b.2, b.3), same)
+  pub line_stops : (way : Way) (boxes : List (List ℕ)) (number : ℕ) (t : ProgramText) (told : Result SetUp ScriptFault) (stop : Stop) → f' ≡ f → ((line rule : ℕ) → told ≡ Err (breaks line rule) → BreaksRule way boxes files t line rule)
+      → BlamesLine told stop → BlamesNext way boxes files f f' number t stop
+  line_stops way boxes number t told Memory same why b = inl same
+  line_stops way boxes number t told Sink same why b = absurd b
+  line_stops way boxes number t told (Refused r) same why b = inl ((bad_line b.0 b.1, why b.0 b.1 b.2, b.3), same)
 
   -- a module that is refused
-  pub module_stops : (way : Way) (number found : ℕ) (t : ProgramText) (kind : RefusalKind) (stop : Stop) → found ≡ number → f' ≡ f → IsBadModule way files t (refusal_of kind)
-      → stop ≡ refused_module found kind → BlamesNext way files f f' number t stop
-  module_stops way number found t kind stop e same bad is =
-      subst (BlamesNext way files f f' number t) (sym is) (inl ((bad_module found (refusal_of kind), (e, bad), (refl, refl)), same))
+  pub module_stops : (way : Way) (boxes : List (List ℕ)) (number found : ℕ) (t : ProgramText) (kind : RefusalKind) (stop : Stop) → found ≡ number → f' ≡ f → IsBadModule way files t (refusal_of kind)
+      → stop ≡ refused_module found kind → BlamesNext way boxes files f f' number t stop
+  module_stops way boxes number found t kind stop e same bad is =
+      subst (BlamesNext way boxes files f f' number t) (sym is) (inl ((bad_module found (refusal_of kind), (e, bad), (refl, refl)), same))
 
 -- over the files and the counts at first
-pub next_blamed : (way : Way) (files mid : Option Files) (f g h number : ℕ) (t : ProgramText) (stop : Stop) → mid ≡ files → g ≡ f
-    → BlamesNext way mid g h number t stop → BlamesNext way files f h number t stop
-next_blamed way files mid f g h number t stop same still b =
-    subst (λ (all : Option Files). BlamesNext way all f h number t stop) same (subst (λ (k : ℕ). BlamesNext way mid k h number t stop) still b)
+pub next_blamed : (way : Way) (boxes : List (List ℕ)) (files mid : Option Files) (f g h number : ℕ) (t : ProgramText) (stop : Stop) → mid ≡ files → g ≡ f
+    → BlamesNext way boxes mid g h number t stop → BlamesNext way boxes files f h number t stop
+next_blamed way boxes files mid f g h number t stop same still b =
+    subst (λ (all : Option Files). BlamesNext way boxes all f h number t stop) same (subst (λ (k : ℕ). BlamesNext way boxes mid k h number t stop) still b)
 
 -- ---- set-up rules
 
-pub rules_asked : (asked all : Bool) (p : Module) (t : ProgramText) (told : Result SetUp ScriptFault) → asked ≡ all → set_up_rules asked p t ≡ told → set_up_rules all p t ≡ told
-rules_asked asked all p t told e h = sym (ap (λ (b : Bool). set_up_rules b p t) e) ∙ h
+pub rules_asked : (asked all : Bool) (boxes : List (List ℕ)) (p : Module) (t : ProgramText) (told : Result SetUp ScriptFault) → asked ≡ all → set_up_rules asked boxes p t ≡ told → set_up_rules all boxes p t ≡ told
+rules_asked asked all boxes p t told e h = sym (ap (λ (b : Bool). set_up_rules b boxes p t) e) ∙ h
 
 on_both : {A B C : Type 0} (r : Result (Unit {0}) Stop) → OnOk r A → OnOk r B → (A → B → C) → OnOk r C
 on_both (Ok x) a b f = f a b
 on_both (Err e) a b f = tt
 
-pub plans_next : (way : Way) (files : Option Files) (l : Loaded) (text : ProgramValue) (given : SetUpValue) (asked : Bool) → asked ≡ asks_all way → FitsPlan (program_of text)
+pub plans_next : (way : Way) (boxes : List (List ℕ)) (files : Option Files) (l : Loaded) (text : ProgramValue) (given : SetUpValue) (asked : Bool) → asked ≡ asks_all way → FitsPlan (program_of text)
     → IsListing (module_of l.valid) (listing l.listed) → IsModule way files (program_of text) (module_of l.valid) (listing l.listed)
-    → set_up_rules asked (module_of l.valid) (program_of text) ≡ Ok (set_up_of given) → map named_entry_of given.entries.items ≡ map named_entry (program_of text).entries
+    → set_up_rules asked boxes (module_of l.valid) (program_of text) ≡ Ok (set_up_of given) → map named_entry_of given.entries.items ≡ map named_entry (program_of text).entries
     → (old new : Programs) (r : Result (Unit {0}) Stop) → OnOk r (new.modules.items ≡ old.modules.items ++ l.valid ∷ [])
-    → OnOk r (new.planned.items ≡ old.planned.items ++ record { listed = l.listed; text = text; given = given } ∷ []) → OnOk r (OpensNext way files (program_of text) old new)
-plans_next way files l text given asked asks fits told is made entries old new r ms ps =
+    → OnOk r (new.planned.items ≡ old.planned.items ++ record { listed = l.listed; text = text; given = given } ∷ []) → OnOk r (OpensNext way boxes files (program_of text) old new)
+plans_next way boxes files l text given asked asks fits told is made entries old new r ms ps =
     on_both r ms ps
     (λ m p. record {
       valid = l.valid;
@@ -195,8 +195,8 @@ plans_next way files l text given asked asks fits told is made entries old new r
       modules_are = m;
       planned_are = p;
       text_is = refl;
-      stage = record { module_is = is; set_up = rules_asked asked (asks_all way) (module_of l.valid) (program_of text) (Ok (set_up_of given)) asks made };
-      can = record { fits = fits; listing = told; suits = suits_by_rules asked (module_of l.valid) (program_of text) given made entries };
+      stage = record { module_is = is; set_up = rules_asked asked (asks_all way) boxes (module_of l.valid) (program_of text) (Ok (set_up_of given)) asks made };
+      can = record { fits = fits; listing = told; suits = suits_by_rules asked boxes (module_of l.valid) (program_of text) given made entries };
     })
 
 pub memory_blamed : (told : Result SetUp ScriptFault) (r : Result (Unit {0}) Stop) → IfErr r (λ stop. stop ≡ Memory) → IfErr r (λ stop. BlamesLine told stop)

@@ -13,7 +13,7 @@ use Rattle.world_model.specs.World.{name_if}
 use Rattle.script_model.specs.Script.{EntryText, ProgramText}
 use Rattle.script_model.specs.Transcript.{Names, Transcript}
 use Rattle.script_setup.specs.SetUpRules.{program_names}
-use Rattle.script_command.specs.Playing.{IsStage, Play, policy_for}
+use Rattle.script_command.specs.Playing.{IsStage, Play, boxes_in, policy_for}
 use Rattle.script_command.specs.declared.way.Way.TheVariants.{Run}
 use Rattle.world_hosting.specs.Worlds.{HasRanges, Part, part_names, turn_count}
 use Rattle.world_hosting.proofs.ScriptPrograms.{scripts_are_in_range}
@@ -46,8 +46,8 @@ pub record HasSource (files : Option Files) (y : Part) : Type 0 where
   pub is_source : IsSource files of y
   pub rewritten : IsRewritten of y
 
-source_of : (files : Option Files) (y : Part) → IsStage Run files y → HasRanges y.text → HasSource files y
-source_of files y stage ranges =
+source_of : (files : Option Files) (boxes : List (List ℕ)) (y : Part) → IsStage Run boxes files y → HasRanges y.text → HasSource files y
+source_of files boxes y stage ranges =
     let settings = stage.module_is.3.0 in
     let runs = stage.module_is.3.2 in
     record {
@@ -61,6 +61,7 @@ source_of files y stage ranges =
         heeds = heeds (policy_for y.text.policy_live) (choice_said y.text.list y.text.ignore_imports) settings stage.module_is.3.1;
         listed = stage.module_is.4 ∙ ap (λ (l : List Bool). Some l) runs.listed_is;
         ranges = ranges;
+        boxes = boxes;
         set_up = stage.set_up;
       };
     }
@@ -72,11 +73,11 @@ pub record HaveSources (files : Option Files) (ys : List Part) : Type 0 where
   pub are_sources : AllZip (IsSource files) sources ys
   pub rewritten : AllZip IsRewritten sources ys
 
-pub sources_of : (files : Option Files) (ys : List Part) → All (IsStage Run files) ys → All HasRanges (texts_of ys) → HaveSources files ys
-sources_of files [] stages ranges = record { sources = []; are_sources = tt; rewritten = tt }
-sources_of files (y ∷ ys) stages ranges =
-    let first = source_of files y (All-head (IsStage Run files) y ys stages) (All-head HasRanges y.text (texts_of ys) ranges) in
-    let rest = sources_of files ys (All-tail (IsStage Run files) y ys stages) (All-tail HasRanges y.text (texts_of ys) ranges) in
+pub sources_of : (files : Option Files) (boxes : List (List ℕ)) (ys : List Part) → All (IsStage Run boxes files) ys → All HasRanges (texts_of ys) → HaveSources files ys
+sources_of files boxes [] stages ranges = record { sources = []; are_sources = tt; rewritten = tt }
+sources_of files boxes (y ∷ ys) stages ranges =
+    let first = source_of files boxes y (All-head (IsStage Run boxes files) y ys stages) (All-head HasRanges y.text (texts_of ys) ranges) in
+    let rest = sources_of files boxes ys (All-tail (IsStage Run boxes files) y ys stages) (All-tail HasRanges y.text (texts_of ys) ranges) in
     record { sources = first.of ∷ rest.sources; are_sources = (first.is_source, rest.are_sources); rewritten = (first.rewritten, rest.rewritten) }
 
 -- ---- names
@@ -121,7 +122,7 @@ text_of_originals xs ys text lines same is =
 
 pub runs_of_originals : RunsAreOfOriginals
 runs_of_originals files name play =
-    let have = sources_of files play.parts play.stages.each (in_range files name play) in (
+    let have = sources_of files (boxes_in play.whole) play.parts play.stages.each (in_range files name play) in (
       have.sources,
       have.are_sources,
       λ old new text told calm. (

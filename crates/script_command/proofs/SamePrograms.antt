@@ -14,7 +14,7 @@ use Rattle.script_model.specs.Script.{ProgramText, Script, ScriptFault}
 use Rattle.script_setup.specs.SetUpRules.{SetUp}
 use Rattle.snapshot_store.specs.Snapshots.{PausedParts, ProgramRecord, Snapshot, fresh, over, paused}
 use Rattle.script_command.specs.declared.way.Way.TheVariants.{Run}
-use Rattle.script_command.specs.Playing.{IsModule, IsStage}
+use Rattle.script_command.specs.Playing.{IsModule, IsStage, boxes_in}
 use Rattle.script_command.proofs.ProgramModules.{one_listing, one_module}
 use Rattle.script_command.proofs.SameSetUp.{same_rules, type_same, without_code}
 use Rattle.script_command.proofs.WholeScripts.{one_script}
@@ -101,23 +101,23 @@ abbrev text_of : Part → ProgramText
 text_of x = x.text
 
 module _ (all : Files) where
-  alike : (x y : Part) → x.text ≡ y.text → IsStage Run (Some all) x → IsStage Run (Some all) y → IsAlike x y
-  alike x y same a b =
+  alike : (boxes : List (List ℕ)) (x y : Part) → x.text ≡ y.text → IsStage Run boxes (Some all) x → IsStage Run boxes (Some all) y → IsAlike x y
+  alike boxes x y same a b =
       let here : IsModule Run (Some all) y.text x.source x.listed = subst (λ (t : ProgramText). IsModule Run (Some all) t x.source x.listed) same a.module_is in
       let outlines = one_module all y.text Run x.source y.source x.listed y.listed here b.module_is in
-      let set_up = subst (λ (t : ProgramText). Rattle.script_setup.specs.SetUpRules.set_up_rules true x.source t ≡ Ok x.given) same a.set_up in
-      let both : ◌≡◌ {A = Result SetUp ScriptFault} (Ok x.given) (Ok y.given) = sym set_up ∙ same_rules true x.source y.source y.text outlines ∙ b.set_up in
+      let set_up = subst (λ (t : ProgramText). Rattle.script_setup.specs.SetUpRules.set_up_rules true boxes x.source t ≡ Ok x.given) same a.set_up in
+      let both : ◌≡◌ {A = Result SetUp ScriptFault} (Ok x.given) (Ok y.given) = sym set_up ∙ same_rules true boxes x.source y.source y.text outlines ∙ b.set_up in
       record { text = same; outline = outlines; listed = one_listing all y.text x.source y.source x.listed y.listed here b.module_is; given = cc }
 
-  all_alike : (xs ys : List Part) → map text_of xs ≡ map text_of ys → All (IsStage Run (Some all)) xs → All (IsStage Run (Some all)) ys → AllZip IsAlike xs ys
-  all_alike [] [] e a b = tt
-  all_alike [] (y ∷ ys) e a b = cc
-  all_alike (x ∷ xs) [] e a b = cc
-  all_alike (x ∷ xs) (y ∷ ys) e a b =
+  all_alike : (boxes : List (List ℕ)) (xs ys : List Part) → map text_of xs ≡ map text_of ys → All (IsStage Run boxes (Some all)) xs → All (IsStage Run boxes (Some all)) ys → AllZip IsAlike xs ys
+  all_alike boxes [] [] e a b = tt
+  all_alike boxes [] (y ∷ ys) e a b = cc
+  all_alike boxes (x ∷ xs) [] e a b = cc
+  all_alike boxes (x ∷ xs) (y ∷ ys) e a b =
       let head : x.text ≡ y.text = cc in
       let tail : map text_of xs ≡ map text_of ys = cc in (
-        alike x y head (All-head (IsStage Run (Some all)) x xs a) (All-head (IsStage Run (Some all)) y ys b),
-        all_alike xs ys tail (All-tail (IsStage Run (Some all)) x xs a) (All-tail (IsStage Run (Some all)) y ys b),
+        alike boxes x y head (All-head (IsStage Run boxes (Some all)) x xs a) (All-head (IsStage Run boxes (Some all)) y ys b),
+        all_alike boxes xs ys tail (All-tail (IsStage Run boxes (Some all)) x xs a) (All-tail (IsStage Run boxes (Some all)) y ys b),
       )
 
   pub same_suits : (name : List ℕ) (p q : Play (Some all) name) (s : Snapshot) → SnapshotSuits (programs_of p) s → SnapshotSuits (programs_of q) s
@@ -125,4 +125,8 @@ module _ (all : Files) where
       let whole = one_script all name p.run.whole q.run.whole p.run.of_script q.run.of_script in
       let texts : map text_of p.run.parts ≡ map text_of q.run.parts =
       p.run.stages.texts_are ∙ ap (λ (w : Script). w.programs) whole ∙ sym q.run.stages.texts_are in
-      record { events = h.events; records = records_suit p.run.parts q.run.parts s.programs (all_alike p.run.parts q.run.parts texts p.run.stages.each q.run.stages.each) h.records }
+      record {
+        events = h.events;
+        records = records_suit p.run.parts q.run.parts s.programs (all_alike (boxes_in q.run.whole) p.run.parts q.run.parts texts
+            (subst (λ (w : Script). All (IsStage Run (boxes_in w) (Some all)) p.run.parts) whole p.run.stages.each) q.run.stages.each) h.records;
+      }

@@ -56,9 +56,9 @@ module _ (p : Module) where
       (map_same (λ (e : NamedEntry). are_args p e.args (entry_func p e.name)) (λ (e : NamedEntry). are_args (outline p) e.args (entry_func p e.name))
       (λ (e : NamedEntry). args_same e.args (entry_func p e.name)) entries)
 
-  rules_same : (runs : Bool) (t : ProgramText) → set_up_rules runs p t ≡ set_up_rules runs (outline p) t
-  rules_same runs t = ap (λ funcs. with_lines runs p.imports t (told_funcs t funcs)) (set_up_same t.area (map named_entry t.entries))
+  rules_same : (runs : Bool) (boxes : List (List ℕ)) (t : ProgramText) → set_up_rules runs boxes p t ≡ set_up_rules runs boxes (outline p) t
+  rules_same runs boxes t = ap (λ funcs. with_lines runs boxes p t (told_funcs t funcs)) (set_up_same t.area (map named_entry t.entries))
 
 -- Modules that have one outline have one set-up.
-pub same_rules : (runs : Bool) (p q : Module) (t : ProgramText) → outline p ≡ outline q → set_up_rules runs p t ≡ set_up_rules runs q t
-same_rules runs p q t e = rules_same p runs t ∙ ap (λ (m : Module). set_up_rules runs m t) e ∙ sym (rules_same q runs t)
+pub same_rules : (runs : Bool) (boxes : List (List ℕ)) (p q : Module) (t : ProgramText) → outline p ≡ outline q → set_up_rules runs boxes p t ≡ set_up_rules runs boxes q t
+same_rules runs boxes p q t e = rules_same p runs boxes t ∙ ap (λ (m : Module). set_up_rules runs boxes m t) e ∙ sym (rules_same q runs boxes t)

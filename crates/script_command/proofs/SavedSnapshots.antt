@@ -16,7 +16,7 @@ use Rattle.world_hosting.proofs.SavedPrograms.{snapshots_suit}
 use Rattle.world_hosting.proofs.ScriptPrograms.{scripts_fit_plans}
 use Rattle.script_command.specs.declared.way.Way.TheVariants.{Run}
 use Rattle.script_command.specs.PlainScripts.{Play}
-use Rattle.script_command.specs.Playing.{HasScript, IsStage, detaches_in}
+use Rattle.script_command.specs.Playing.{HasScript, IsStage, boxes_in, detaches_in}
 use Rattle.script_command.specs.SavedSnapshots.{FindsSaved, SavedSnapshotsAreTaken, SavedSnapshotsSuit}
 use Rattle.script_command.specs.SnapshotCalls.{Call, continues}
 use Rattle.script_command.specs.SnapshotTelling.{Cause, HoldsSnapshot, IsCause, IsRefused, long, programs_of, unfit, unplayed, unread, unwritten}
@@ -27,10 +27,10 @@ use Rattle.script_command.proofs.Unbinding.{unbound_programs}
 
 -- ---- programs that are set up
 
-stage_set : (files : Option Files) (x : Part) → IsStage Run files x → FitsPlan x.text → HasRanges x.text → IsSetUp (world_program x)
-stage_set files x stage fits ranges =
+stage_set : (files : Option Files) (boxes : List (List ℕ)) (x : Part) → IsStage Run boxes files x → FitsPlan x.text → HasRanges x.text → IsSetUp (world_program x)
+stage_set files boxes x stage fits ranges =
     let valid : Valid x.source = stage.module_is.3.2.rewrites.parts.valid_rewritten in
-    let given = given_by_rules true x.source x.text x.given stage.set_up in
+    let given = given_by_rules true boxes x.source x.text x.given stage.set_up in
     let fine = set_up_fine x.source valid x.text.area (map named_entry x.text.entries) x.given.funcs given.funcs in
     record {
       valid = valid;
@@ -42,17 +42,17 @@ stage_set files x stage fits ranges =
       answers = ranges.answers;
     }
 
-stages_set : (files : Option Files) (xs : List Part) → All (IsStage Run files) xs → All FitsPlan (texts_of xs) → All HasRanges (texts_of xs) → All IsSetUp (world_programs xs)
-stages_set files [] stages fits ranges = All-nil IsSetUp
-stages_set files (x ∷ xs) stages fits ranges =
+stages_set : (files : Option Files) (boxes : List (List ℕ)) (xs : List Part) → All (IsStage Run boxes files) xs → All FitsPlan (texts_of xs) → All HasRanges (texts_of xs) → All IsSetUp (world_programs xs)
+stages_set files boxes [] stages fits ranges = All-nil IsSetUp
+stages_set files boxes (x ∷ xs) stages fits ranges =
     All-cons IsSetUp (world_program x) (world_programs xs)
-    (stage_set files x (All-head (IsStage Run files) x xs stages) (All-head FitsPlan x.text (texts_of xs) fits) (All-head HasRanges x.text (texts_of xs) ranges))
-    (stages_set files xs (All-tail (IsStage Run files) x xs stages) (All-tail FitsPlan x.text (texts_of xs) fits) (All-tail HasRanges x.text (texts_of xs) ranges))
+    (stage_set files boxes x (All-head (IsStage Run boxes files) x xs stages) (All-head FitsPlan x.text (texts_of xs) fits) (All-head HasRanges x.text (texts_of xs) ranges))
+    (stages_set files boxes xs (All-tail (IsStage Run boxes files) x xs stages) (All-tail FitsPlan x.text (texts_of xs) fits) (All-tail HasRanges x.text (texts_of xs) ranges))
 
 programs_set : (files : Option Files) (name : List ℕ) (play : Play files name) → All IsSetUp (programs_of play)
 programs_set files name play =
     let script = play.run.of_script.script in
-    stages_set files play.run.parts play.run.stages.each
+    stages_set files (boxes_in play.run.whole) play.run.parts play.run.stages.each
     (subst (All FitsPlan) (sym play.run.stages.texts_are) (scripts_fit_plans play.run.of_script.bytes play.run.whole script.few script.text)) (in_range files name play.run)
 
 all_saved : (xs : List Part) → All Unbound (world_programs xs) → All CanBeSaved (world_programs xs)
@@ -74,17 +74,17 @@ saved_suits most c text saved few =
 
 -- ---- the same script over other files
 
-stage_over : (files files' : Files) (x : Part) → files' x.text.path ≡ files x.text.path → IsStage Run (Some files) x → IsStage Run (Some files') x
-stage_over files files' x there stage =
+stage_over : (files files' : Files) (boxes : List (List ℕ)) (x : Part) → files' x.text.path ≡ files x.text.path → IsStage Run boxes (Some files) x → IsStage Run boxes (Some files') x
+stage_over files files' boxes x there stage =
     let m = stage.module_is in
     record { module_is = (m.0, m.1, there ∙ m.2, m.3, m.4); set_up = stage.set_up }
 
-stages_over : (files files' : Files) (xs : List Part) → All (HasAlike files files') (texts_of xs) → All (IsStage Run (Some files)) xs → All (IsStage Run (Some files')) xs
-stages_over files files' [] there stages = All-nil (IsStage Run (Some files'))
-stages_over files files' (x ∷ xs) there stages =
-    All-cons (IsStage Run (Some files')) x xs
-    (stage_over files files' x (All-head (HasAlike files files') x.text (texts_of xs) there) (All-head (IsStage Run (Some files)) x xs stages))
-    (stages_over files files' xs (All-tail (HasAlike files files') x.text (texts_of xs) there) (All-tail (IsStage Run (Some files)) x xs stages))
+stages_over : (files files' : Files) (boxes : List (List ℕ)) (xs : List Part) → All (HasAlike files files') (texts_of xs) → All (IsStage Run boxes (Some files)) xs → All (IsStage Run boxes (Some files')) xs
+stages_over files files' boxes [] there stages = All-nil (IsStage Run boxes (Some files'))
+stages_over files files' boxes (x ∷ xs) there stages =
+    All-cons (IsStage Run boxes (Some files')) x xs
+    (stage_over files files' boxes x (All-head (HasAlike files files') x.text (texts_of xs) there) (All-head (IsStage Run boxes (Some files)) x xs stages))
+    (stages_over files files' boxes xs (All-tail (HasAlike files files') x.text (texts_of xs) there) (All-tail (IsStage Run boxes (Some files)) x xs stages))
 
 module _ (most : ℕ) (c c' : Call) (text : List ℕ) (h : FindsSaved most c c' text) where
   abbrev play : Play c.files c.script
@@ -101,8 +101,8 @@ module _ (most : ℕ) (c c' : Call) (text : List ℕ) (h : FindsSaved most c c' 
       parts = play.run.parts;
       stages = record {
         texts_are = play.run.stages.texts_are;
-        each = stages_over h.files h.files' play.run.parts (subst (All (HasAlike h.files h.files')) (sym play.run.stages.texts_are) h.alike.modules)
-            (subst (λ (f : Option Files). All (IsStage Run f) play.run.parts) h.first play.run.stages.each);
+        each = stages_over h.files h.files' (boxes_in play.run.whole) play.run.parts (subst (All (HasAlike h.files h.files')) (sym play.run.stages.texts_are) h.alike.modules)
+            (subst (λ (f : Option Files). All (IsStage Run (boxes_in play.run.whole) f) play.run.parts) h.first play.run.stages.each);
       };
     };
     none = play.none;

@@ -17,8 +17,8 @@ use Rattle.script_command.specs.declared.way.Way.{Way}
 use Rattle.script_command.specs.declared.opening.Opened.{Opened}
 use Rattle.script_command.specs.declared.stop.Stop.{Stop}
 use Rattle.script_command.proofs.Choices.{scripts_choose}
-use Rattle.script_command.specs.Playing.{Cause, HasChoice, HasScript, IsReached, IsRefused, Reaches, bad_line, bad_module, bad_script, detach_for}
-use Rattle.script_command.specs.Views.{AreOpened, Blames, BlamesPrograms, BlamesScript, CanPlay, IsRefusedNext, Opens}
+use Rattle.script_command.specs.Playing.{Cause, HasChoice, HasScript, IsReached, IsRefused, Reaches, boxes_in, bad_line, bad_module, bad_script, detach_for}
+use Rattle.script_command.specs.Views.{AreOpened, Blames, BlamesPrograms, BlamesScript, CanPlay, IsRefusedNext, Opens, boxes_of}
 use Rattle.script_command.proofs.Openings.{stops_so, text_in, texts_of_parts}
 
 -- ---- what is opened
@@ -53,16 +53,16 @@ module _ (whole : ScriptValue) (read : (bytes : List ℕ) × IsScript bytes (scr
   texts_choose = scripts_choose read.0 (script_of whole) read.1.text
 
   pub opens : (files : Option Files) (name : List ℕ) → HasScript files name (script_of whole) → (way : Way) (mid : Option Files) (o : Opened) → mid ≡ files
-      → o.detaches.items ≡ whole.detaches.items → AreOpened way mid (map program_of whole.programs.items) o.programs → Opens way files name o
+      → o.detaches.items ≡ whole.detaches.items → AreOpened way (boxes_of whole.mailboxes.items) mid (map program_of whole.programs.items) o.programs → Opens way files name o
   opens files name has way mid o same taken are =
-      let here : AreOpened way files (map program_of whole.programs.items) o.programs = subst (λ (all : Option Files). AreOpened way all (map program_of whole.programs.items) o.programs) same are in
+      let here : AreOpened way (boxes_of whole.mailboxes.items) files (map program_of whole.programs.items) o.programs = subst (λ (all : Option Files). AreOpened way (boxes_of whole.mailboxes.items) all (map program_of whole.programs.items) o.programs) same are in
       record {
         play = record { whole = script_of whole; of_script = has; parts = _; stages = here.stages };
         parts_are = refl;
         detaches_are = same_detaches whole.detaches.items ∙ sym taken;
       }
 
-  pub plays : (way : Way) (mid : Option Files) (o : Opened) → AreOpened way mid (map program_of whole.programs.items) o.programs → CanPlay o
+  pub plays : (way : Way) (mid : Option Files) (o : Opened) → AreOpened way (boxes_of whole.mailboxes.items) mid (map program_of whole.programs.items) o.programs → CanPlay o
   plays way mid o are =
       let texts : map text_in o.programs.planned.items ≡ map program_of whole.programs.items =
       sym (texts_of_parts o.programs.modules.items o.programs.planned.items are.each) ∙ are.stages.texts_are in
@@ -79,21 +79,21 @@ module _ (way : Way) (files : Option Files) (name : List ℕ) (f h : ℕ) where
   no_script_blamed stop b = stops_so files f h _ _ _ _ stop (λ r none. (bad_script (refusal_of r.kind), (none.0, none.1, none.2), (none.3, refl))) (λ read own. inl own) b
 
   module _ (whole : Script) (has : HasScript files name whole) where
-    reaches : (number : ℕ) (t : ProgramText) → IsReached way files whole.programs number t → Reaches way files name number t
+    abbrev reaches : (number : ℕ) (t : ProgramText) → IsReached way (boxes_in whole) files whole.programs number t → Reaches way files name number t
     reaches number t is = record { whole = whole; of_script = has; reached = is }
 
     -- what a program that is reached is refused for, the script is
-    refused_there : (number : ℕ) (t : ProgramText) (cause : Cause) → IsReached way files whole.programs number t → IsRefusedNext way files number t cause → IsRefused way files name cause
+    refused_there : (number : ℕ) (t : ProgramText) (cause : Cause) → IsReached way (boxes_in whole) files whole.programs number t → IsRefusedNext way (boxes_in whole) files number t cause → IsRefused way files name cause
     refused_there number t (bad_script r) is h = absurd h
-    refused_there number t (bad_module n r) is h = (t, reaches n t (subst (λ (k : ℕ). IsReached way files whole.programs k t) (sym h.0) is), h.1)
+    refused_there number t (bad_module n r) is h = (t, reaches n t (subst (λ (k : ℕ). IsReached way (boxes_in whole) files whole.programs k t) (sym h.0) is), h.1)
     refused_there number t (bad_line line rule) is h = (number, t, reaches number t is, h)
 
-    blamed : (stop : Stop) → BlamesPrograms way files f h whole.programs stop → Blames way files f h name stop
+    blamed : (stop : Stop) → BlamesPrograms way (boxes_in whole) files f h whole.programs stop → Blames way files f h name stop
     blamed stop b =
         stops_so files f h _ _ _ _ stop (λ r told. (told.0, refused_there b.0 b.1 told.0 b.2 told.1, told.2)) (λ read own. inr (b.0, b.1, reaches b.0 b.1 b.2, own)) b.3
 
   pub script_blamed : (mid : Option Files) (g : ℕ) (whole : Script) (stop : Stop) → mid ≡ files → g ≡ f → HasScript files name whole
-      → BlamesPrograms way mid g h whole.programs stop → Blames way files f h name stop
+      → BlamesPrograms way (boxes_in whole) mid g h whole.programs stop → Blames way files f h name stop
   script_blamed mid g whole stop same still has b =
       blamed whole has stop
-      (subst (λ (all : Option Files). BlamesPrograms way all f h whole.programs stop) same (subst (λ (k : ℕ). BlamesPrograms way mid k h whole.programs stop) still b))
+      (subst (λ (all : Option Files). BlamesPrograms way (boxes_in whole) all f h whole.programs stop) same (subst (λ (k : ℕ). BlamesPrograms way (boxes_in whole) mid k h whole.programs stop) still b))

@@ -14,7 +14,7 @@ use Rattle.wasm_reader.specs.Held.{Holds}
 use Rattle.transform_command.specs.Running.{RunsAs}
 use Rattle.transform_command.specs.Manners.{plainly}
 use Rattle.transform_command.specs.SourceRefusals.{IsRefusedUnwritten}
-use Rattle.script_setup.specs.SetUpRules.{set_up_rules}
+use Rattle.script_setup.specs.SetUpRules.{box_names, set_up_rules}
 use Rattle.world_hosting.specs.Worlds.{Part}
 use Rattle.script_command.specs.declared.way.Way.{Way}
 use Rattle.script_command.specs.declared.way.Way.TheVariants.{Host, Run}
@@ -62,27 +62,31 @@ IsBadModule Run files t r = (bytes : List ℕ) × Holds files t.path bytes × Is
 
 -- ---- what is played
 
--- `run` alone has the last set-up rule
+-- the names of a script's mailboxes
+abbrev pub boxes_in : Script → List (List ℕ)
+boxes_in s = box_names s.mailboxes
+
+-- `run` alone asks that no memory is shown that overlaps the area
 abbrev pub asks_all : Way → Bool
 asks_all Host = false
 asks_all Run = true
 
--- A program of a script over its module, set up.
-pub record IsStage (way : Way) (files : Option Files) (x : Part) : Type 0 where
+-- A program of a script with mailboxes of these names, set up over its module.
+pub record IsStage (way : Way) (boxes : List (List ℕ)) (files : Option Files) (x : Part) : Type 0 where
   pub module_is : IsModule way files x.text x.source x.listed
-  pub set_up : set_up_rules (asks_all way) x.source x.text ≡ Ok x.given
+  pub set_up : set_up_rules (asks_all way) boxes x.source x.text ≡ Ok x.given
 
 -- the programs of these texts, in order, each set up over its module
-pub record AreStages (way : Way) (files : Option Files) (texts : List ProgramText) (parts : List Part) : Type 0 where
+pub record AreStages (way : Way) (boxes : List (List ℕ)) (files : Option Files) (texts : List ProgramText) (parts : List Part) : Type 0 where
   pub texts_are : map (λ (x : Part). x.text) parts ≡ texts
-  pub each : All (IsStage way files) parts
+  pub each : All (IsStage way boxes files) parts
 
 -- A script, and its programs, all set up.
 pub record Play (way : Way) (files : Option Files) (name : List ℕ) : Type 0 where
   pub whole : Script
   pub of_script : HasScript files name whole
   pub parts : List Part
-  pub stages : AreStages way files whole.programs parts
+  pub stages : AreStages way (boxes_in whole) files whole.programs parts
 
 -- a device that is taken out
 abbrev pub detach_for : DetachText → Detach
@@ -95,19 +99,19 @@ detaches_in s = map detach_for s.detaches
 -- ---- why nothing is played
 
 -- One of these programs has this number and text, and those before it are set up.
-pub record IsReached (way : Way) (files : Option Files) (texts : List ProgramText) (number : ℕ) (t : ProgramText) : Type 0 where
+pub record IsReached (way : Way) (boxes : List (List ℕ)) (files : Option Files) (texts : List ProgramText) (number : ℕ) (t : ProgramText) : Type 0 where
   pub before : List ProgramText
   pub behind : List ProgramText
   pub parted : texts ≡ before ++ t ∷ behind
   pub number_is : number ≡ length before
   pub parts : List Part
-  pub stages : AreStages way files before parts
+  pub stages : AreStages way boxes files before parts
 
 -- It is one of the script's.
 pub record Reaches (way : Way) (files : Option Files) (name : List ℕ) (number : ℕ) (t : ProgramText) : Type 0 where
   pub whole : Script
   pub of_script : HasScript files name whole
-  pub reached : IsReached way files whole.programs number t
+  pub reached : IsReached way (boxes_in whole) files whole.programs number t
 
 -- the script is refused; the module of a program of this number is; or a line of a program breaks a set-up rule
 pub data Cause : Type 0 where
@@ -122,14 +126,14 @@ refusal_of_cause (bad_module number r) = r
 refusal_of_cause (bad_line line rule) = script line rule
 
 -- a line of the program's text breaks a rule over its module
-abbrev pub BreaksRule : Way → Option Files → ProgramText → (line rule : ℕ) → Type 0
-BreaksRule way files t line rule = (p : Module) × (listed : Option (List Bool)) × IsModule way files t p listed × (set_up_rules (asks_all way) p t ≡ Err (breaks line rule))
+abbrev pub BreaksRule : Way → (boxes : List (List ℕ)) → Option Files → ProgramText → (line rule : ℕ) → Type 0
+BreaksRule way boxes files t line rule = (p : Module) × (listed : Option (List Bool)) × IsModule way files t p listed × (set_up_rules (asks_all way) boxes p t ≡ Err (breaks line rule))
 
 -- Each stands behind those before it.
 abbrev pub IsRefused : Way → Option Files → (name : List ℕ) → Cause → Type 0
 IsRefused way files name (bad_script r) = (bytes : List ℕ) × Holds files name bytes × IsNoScript bytes r
 IsRefused way files name (bad_module number r) = (t : ProgramText) × Reaches way files name number t × IsBadModule way files t r
-IsRefused way files name (bad_line line rule) = (number : ℕ) × (t : ProgramText) × Reaches way files name number t × BreaksRule way files t line rule
+IsRefused way files name (bad_line line rule) = (number : ℕ) × (t : ProgramText) × (r : Reaches way files name number t) × BreaksRule way (boxes_in r.whole) files t line rule
 
 -- a file that is read: the script, or the module of a program that is reached
 abbrev pub IsRead : Way → Option Files → (name : List ℕ) → (read : List ℕ) → Type 0

@@ -1,5 +1,5 @@
 -- What is answered, as plain data.
-use Rattle.std.specs.Prelude.{◌≡◌, ◌⊎◌, ◌≤◌, ◌++◌, ℕ, List, [], ◌∷◌, length, Option, None, Result, Err}
+use Rattle.std.specs.Prelude.{◌≡◌, ◌⊎◌, ◌≤◌, ◌++◌, ℕ, List, [], ◌∷◌, length, map, Option, None, Result, Err}
 use Rattle.std.specs.List.{AllZip}
 use Rattle.vault_port.specs.Counts.{FailsAtMostOnce}
 use Rattle.vault_port.specs.Files.{Files, CannotRead}
@@ -13,8 +13,9 @@ use Rattle.script_setup.specs.Scripts.{IsNoScript}
 use Rattle.wasm_reader.specs.Held.{Holds}
 use Rattle.module_files.specs.declared.fault.FileFault.{FileFault}
 use Rattle.module_files.specs.declared.fault.FileFault.TheVariants as F
-use Rattle.script_reader.specs.Views.{program_of}
-use Rattle.script_setup.specs.SetUpRules.{SetUp}
+use Rattle.script_reader.specs.Views.{mailbox_of, program_of}
+use Rattle.script_reader.specs.declared.script.MailboxText.{MailboxText}
+use Rattle.script_setup.specs.SetUpRules.{SetUp, box_names}
 use Rattle.script_setup.specs.Views.{set_up_of}
 use Rattle.world_hosting.specs.Worlds.{FitsPlan, IsListing, Part}
 use Rattle.world_hosting.specs.Views.{Suits, listing}
@@ -40,6 +41,10 @@ IsBadModuleFor way files t _ = Unit {0}
 
 -- ---- programs
 
+-- the names of mailboxes
+abbrev pub boxes_of : List MailboxText → List (List ℕ)
+boxes_of mailboxes = box_names (map mailbox_of mailboxes)
+
 -- the part of a script that is planned over a module
 abbrev pub part_of : ModuleValue → Planned → Part
 part_of v p = record { source = module_of v; listed = listing p.listed; text = program_of p.text; given = set_up_of p.given }
@@ -58,18 +63,18 @@ pub record CanStage (v : ModuleValue) (p : Planned) : Type 0 where
   pub suits : Suits (module_of v) (program_of p.text) p.given
 
 -- The programs are those of these texts, each set up over its module.
-pub record AreOpened (way : Way) (files : Option Files) (texts : List ProgramText) (ps : Programs) : Type 0 where
-  pub stages : AreStages way files texts (parts_of ps.modules.items ps.planned.items)
+pub record AreOpened (way : Way) (boxes : List (List ℕ)) (files : Option Files) (texts : List ProgramText) (ps : Programs) : Type 0 where
+  pub stages : AreStages way boxes files texts (parts_of ps.modules.items ps.planned.items)
   pub each : AllZip CanStage ps.modules.items ps.planned.items
 
 -- They are one more, that of this text, set up over its module.
-pub record OpensNext (way : Way) (files : Option Files) (t : ProgramText) (old new : Programs) : Type 0 where
+pub record OpensNext (way : Way) (boxes : List (List ℕ)) (files : Option Files) (t : ProgramText) (old new : Programs) : Type 0 where
   pub valid : ModuleValue
   pub planned : Planned
   pub modules_are : new.modules.items ≡ old.modules.items ++ valid ∷ []
   pub planned_are : new.planned.items ≡ old.planned.items ++ planned ∷ []
   pub text_is : program_of planned.text ≡ t
-  pub stage : IsStage way files (part_of valid planned)
+  pub stage : IsStage way boxes files (part_of valid planned)
   pub can : CanStage valid planned
 
 -- ---- scripts
@@ -116,19 +121,19 @@ BlamesLine told Sink = ⊥
 BlamesLine told (Refused r) = (line : ℕ) × (rule : ℕ) × (told ≡ Err (breaks line rule)) × TellsCause (bad_line line rule) r
 
 -- a program of this number and text is refused for this
-abbrev pub IsRefusedNext : Way → Option Files → (number : ℕ) → ProgramText → Cause → Type 0
-IsRefusedNext way files number t (bad_script r) = ⊥
-IsRefusedNext way files number t (bad_module n r) = (n ≡ number) × IsBadModule way files t r
-IsRefusedNext way files number t (bad_line line rule) = BreaksRule way files t line rule
+abbrev pub IsRefusedNext : Way → (boxes : List (List ℕ)) → Option Files → (number : ℕ) → ProgramText → Cause → Type 0
+IsRefusedNext way boxes files number t (bad_script r) = ⊥
+IsRefusedNext way boxes files number t (bad_module n r) = (n ≡ number) × IsBadModule way files t r
+IsRefusedNext way boxes files number t (bad_line line rule) = BreaksRule way boxes files t line rule
 
 -- why it isn't set up
-abbrev pub BlamesNext : Way → Option Files → (faults faults' number : ℕ) → ProgramText → Stop → Type 0
-BlamesNext way files faults faults' number t stop =
-    StopsFor (λ r. (cause : Cause) × IsRefusedNext way files number t cause × TellsCause cause r) (λ read. read ≡ t.path) files faults faults' stop
+abbrev pub BlamesNext : Way → (boxes : List (List ℕ)) → Option Files → (faults faults' number : ℕ) → ProgramText → Stop → Type 0
+BlamesNext way boxes files faults faults' number t stop =
+    StopsFor (λ r. (cause : Cause) × IsRefusedNext way boxes files number t cause × TellsCause cause r) (λ read. read ≡ t.path) files faults faults' stop
 
 -- .. why the first of these that isn't can't be
-abbrev pub BlamesPrograms : Way → Option Files → (faults faults' : ℕ) → List ProgramText → Stop → Type 0
-BlamesPrograms way files faults faults' texts stop = (number : ℕ) × (t : ProgramText) × IsReached way files texts number t × BlamesNext way files faults faults' number t stop
+abbrev pub BlamesPrograms : Way → (boxes : List (List ℕ)) → Option Files → (faults faults' : ℕ) → List ProgramText → Stop → Type 0
+BlamesPrograms way boxes files faults faults' texts stop = (number : ℕ) × (t : ProgramText) × IsReached way boxes files texts number t × BlamesNext way boxes files faults faults' number t stop
 
 -- why there is no script in the file
 abbrev pub BlamesScript : Option Files → (faults faults' : ℕ) → (name : List ℕ) → Stop → Type 0

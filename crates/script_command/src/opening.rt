@@ -5,7 +5,7 @@ ghost use Rattle.std.specs.Result.{IfErr};
 ghost use Rattle.script_reader.specs.Views.{program_of, script_of};
 ghost use Rattle.script_setup.specs.Scripts.{IsScript};
 ghost use Rattle.script_command.specs.Playing.{HasScript};
-ghost use Rattle.script_command.specs.Views.{AreOpened, Blames, BlamesPrograms, BlamesScript, CanPlay, Opens};
+ghost use Rattle.script_command.specs.Views.{AreOpened, Blames, BlamesPrograms, BlamesScript, CanPlay, Opens, boxes_of};
 
 use crate::programs::{Programs, open_programs};
 use crate::stop::{Stop, refused, unread};
@@ -77,10 +77,10 @@ pub(crate) fn open_whole<V: Vault>(
     whole: Script,
 ) -> Result<Opened, Stop>
     requires { (bytes : List ℕ) × IsScript bytes (script_of whole) }
-    ensures opened { IfOk result (λ o. AreOpened way (V.files vault.old) (map program_of whole.programs.items) o.programs) }
+    ensures opened { IfOk result (λ o. AreOpened way (boxes_of whole.mailboxes.items) (V.files vault.old) (map program_of whole.programs.items) o.programs) }
     ensures detaches { IfOk result (λ o. o.detaches.items ≡ whole.detaches.items) }
     ensures plays { IfOk result CanPlay }
-    ensures refused { IfErr result (λ stop. BlamesPrograms way (V.files vault.old) (V.fetch_faults vault.old) (V.fetch_faults vault.new)
+    ensures refused { IfErr result (λ stop. BlamesPrograms way (boxes_of whole.mailboxes.items) (V.files vault.old) (V.fetch_faults vault.old) (V.fetch_faults vault.new)
         (map program_of whole.programs.items) stop) }
     ensures kept { V.files vault.new ≡ V.files vault.old }
     ensures stays { OnOk result (V.fetch_faults vault.new ≡ V.fetch_faults vault.old) }
@@ -88,8 +88,12 @@ pub(crate) fn open_whole<V: Vault>(
     ensures saves { V.save_faults vault.new ≡ V.save_faults vault.old }
 {
     scripts_fit();
-    let detaches = whole.detaches;
-    match open_programs(alloc, vault, way, whole.programs) {
+    let Script {
+        programs,
+        detaches,
+        mailboxes,
+    } = whole;
+    match open_programs(alloc, vault, way, &mailboxes, programs) {
         Ok(programs) => Ok(Opened { programs, detaches }),
         Err(stop) => Err(stop),
     }

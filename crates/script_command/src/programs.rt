@@ -9,13 +9,13 @@ ghost use Rattle.script_setup.specs.SetUpRules.{set_up_rules};
 ghost use Rattle.world_hosting.specs.Worlds.{FitsPlan, IsListing};
 ghost use Rattle.world_hosting.specs.Views.{listing};
 ghost use Rattle.script_command.specs.Playing.{HasChoice, IsModule, asks_all};
-ghost use Rattle.script_command.specs.Views.{AreOpened, BlamesLine, BlamesNext, BlamesPrograms, OpensNext};
+ghost use Rattle.script_command.specs.Views.{AreOpened, BlamesLine, BlamesNext, BlamesPrograms, OpensNext, boxes_of};
 
 use crate::modules::{Loaded, fetch_module};
 use crate::stop::{Stop, refused, refused_module, unread};
 use crate::way::Way;
 use module_files::FileFault;
-use script_reader::ProgramText;
+use script_reader::{MailboxText, ProgramText};
 use script_setup::{RuleFault, SetUp, set_up_program};
 use std::alloc::{AllocError, Global};
 use transcript::RefusalKind;
@@ -38,18 +38,20 @@ pub struct Programs {
     pub planned: Vec<Planned>,
 }
 
-/// The programs of these texts, each over its module and set up before the next is looked at. No file changes.
+/// The programs of these texts, of a script with these mailboxes, each over its module and set up before the next is looked at. No file
+/// changes.
 pub(crate) fn open_programs<V: Vault>(
     alloc: Global,
     vault: &mut V,
     way: Way,
+    mailboxes: &[MailboxText],
     texts: Vec<ProgramText>,
 ) -> Result<Programs, Stop>
     requires few { length texts.items ≤ 16 }
     requires fits { All FitsPlan (map program_of texts.items) }
     requires choices { All HasChoice (map program_of texts.items) }
-    ensures opened { IfOk result (λ ps. AreOpened way (V.files vault.old) (map program_of texts.items) ps) }
-    ensures refused { IfErr result (λ stop. BlamesPrograms way (V.files vault.old) (V.fetch_faults vault.old) (V.fetch_faults vault.new) (map program_of texts.items) stop) }
+    ensures opened { IfOk result (λ ps. AreOpened way (boxes_of mailboxes.now) (V.files vault.old) (map program_of texts.items) ps) }
+    ensures refused { IfErr result (λ stop. BlamesPrograms way (boxes_of mailboxes.now) (V.files vault.old) (V.fetch_faults vault.old) (V.fetch_faults vault.new) (map program_of texts.items) stop) }
     ensures kept { V.files vault.new ≡ V.files vault.old }
     ensures stays { OnOk result (V.fetch_faults vault.new ≡ V.fetch_faults vault.old) }
     ensures faults { V.fetch_faults vault.old ≤ V.fetch_faults vault.new }
@@ -60,7 +62,7 @@ pub(crate) fn open_programs<V: Vault>(
         planned: Vec::new(alloc),
     };
     for text in texts {
-        if let Err(stop) = open_next(alloc, vault, way, &mut programs, text) {
+        if let Err(stop) = open_next(alloc, vault, way, mailboxes, &mut programs, text) {
             return Err(stop);
         }
     }
@@ -72,14 +74,15 @@ fn open_next<V: Vault>(
     alloc: Global,
     vault: &mut V,
     way: Way,
+    mailboxes: &[MailboxText],
     programs: &mut Programs,
     text: ProgramText,
 ) -> Result<(), Stop>
     requires few { length programs.old.planned.items < 16 }
     requires fits { FitsPlan (program_of text) }
     requires choice { HasChoice (program_of text) }
-    ensures opened { OnOk result (OpensNext way (V.files vault.old) (program_of text) programs.old programs.new) }
-    ensures refused { IfErr result (λ stop. BlamesNext way (V.files vault.old) (V.fetch_faults vault.old) (V.fetch_faults vault.new) (length programs.old.planned.items) (program_of text) stop) }
+    ensures opened { OnOk result (OpensNext way (boxes_of mailboxes.now) (V.files vault.old) (program_of text) programs.old programs.new) }
+    ensures refused { IfErr result (λ stop. BlamesNext way (boxes_of mailboxes.now) (V.files vault.old) (V.fetch_faults vault.old) (V.fetch_faults vault.new) (length programs.old.planned.items) (program_of text) stop) }
     ensures kept { V.files vault.new ≡ V.files vault.old }
     ensures stays { OnOk result (V.fetch_faults vault.new ≡ V.fetch_faults vault.old) }
     ensures faults { V.fetch_faults vault.old ≤ V.fetch_faults vault.new }
@@ -87,7 +90,7 @@ fn open_next<V: Vault>(
 {
     let number = programs.planned.len() as u32;
     match fetch_module(alloc, vault, way, &text) {
-        Ok(loaded) => plan_program(alloc, way, programs, loaded, text),
+        Ok(loaded) => plan_program(alloc, way, mailboxes, programs, loaded, text),
         Err(FileFault::Memory) => Err(Stop::Memory),
         Err(FileFault::Read) => Err(unread(alloc, text.path.as_str())),
         Err(FileFault::Refused(kind)) => Err(refused_module(number, kind)),
@@ -98,6 +101,7 @@ fn open_next<V: Vault>(
 fn plan_program(
     alloc: Global,
     way: Way,
+    mailboxes: &[MailboxText],
     programs: &mut Programs,
     loaded: Loaded,
     text: ProgramText,
@@ -105,10 +109,10 @@ fn plan_program(
     requires fits { FitsPlan (program_of text) }
     requires listing { IsListing (module_of loaded.valid) (listing loaded.listed) }
     ensures opened { (files : Option Files) → IsModule way files (program_of text) (module_of loaded.valid) (listing loaded.listed)
-        → OnOk result (OpensNext way files (program_of text) programs.old programs.new) }
-    ensures refused { IfErr result (λ stop. BlamesLine (set_up_rules (asks_all way) (module_of loaded.valid) (program_of text)) stop) }
+        → OnOk result (OpensNext way (boxes_of mailboxes.now) files (program_of text) programs.old programs.new) }
+    ensures refused { IfErr result (λ stop. BlamesLine (set_up_rules (asks_all way) (boxes_of mailboxes.now) (module_of loaded.valid) (program_of text)) stop) }
 {
-    match set_up_program(alloc, &loaded.valid, &text, way.asks_all()) {
+    match set_up_program(alloc, &loaded.valid, mailboxes, &text, way.asks_all()) {
         Ok(given) => put_program(programs, loaded, text, given),
         Err(RuleFault::Memory) => Err(Stop::Memory),
         Err(RuleFault::Rule { line, rule }) => Err(refused(RefusalKind::Script { line, rule })),

@@ -10,8 +10,8 @@ use Rattle.wa_types.specs.declared.values.Trap.TheVariants.{Unreachable, Import}
 use Rattle.wa_model.specs.declared.answers.Said.TheVariants as S
 use Rattle.wa_model.specs.declared.events.End.TheVariants.{Trapped, UnwindTrap}
 use Rattle.wa_model.specs.Outside.{Line, Event, called, answered, paused, returned, ended, shown}
-use Rattle.script_model.specs.Script.{Script, ScriptFault, breaks, too_many, device_line}
-use Rattle.script_model.specs.ScriptLines.{begins_program, has_steps, shows, detaches, answers, line_says, word_text, value_in, result_in, number_in, hex_in}
+use Rattle.script_model.specs.Script.{Script, ScriptFault, breaks, too_many, device_line, sharing_line}
+use Rattle.script_model.specs.ScriptLines.{begins_program, has_steps, shows, detaches, has_mailbox, answers, line_says, word_text, value_in, result_in, number_in, hex_in}
 use Rattle.script_model.specs.ScriptText.{script_text}
 use Rattle.script_model.specs.Transcript.{Names, event_line, Transcript, last_line, refusal_line, script, invalid, limit, snapshot_limit, snapshot_refused}
 
@@ -139,7 +139,7 @@ abbrev fault : Result Script ScriptFault → Option ScriptFault
 fault (Ok s) = None
 fault (Err f) = Some f
 
-nothing : script_text [] ≡ Ok (record { programs = []; detaches = [] })
+nothing : script_text [] ≡ Ok (record { programs = []; detaches = []; mailboxes = [] })
 unfolding script_text is_utf8 chars encode digits
 nothing = refl
 
@@ -161,6 +161,7 @@ one_program : script_text (line (codes "program f" ++ 13 ∷ []) (line (codes "a
         shows = [];
       } ∷ [];
       detaches = [];
+      mailboxes = [];
     })
 unfolding script_text is_utf8 chars encode digits
 one_program = refl
@@ -238,6 +239,59 @@ seventeen_bad : fault (script_text (four_programs (four_programs (four_programs 
 unfolding script_text is_utf8 chars encode digits
 seventeen_bad = refl
 
+-- ---- mailboxes
+
+a_mailbox : (line_says (codes "mailbox a%20b") ≡ Ok (Some (has_mailbox (codes "a b")))) × (line_says (codes "mailbox") ≡ Err 3) × (line_says (codes "mailbox a b") ≡ Err 3)
+unfolding script_text is_utf8 chars encode digits
+a_mailbox = (refl, refl, refl)
+
+-- mailboxes may stand before the first program, and in the midst of programs, of which they are no part
+two_mailboxes : script_text (line (codes "mailbox a") (program_lines (codes "mailbox b")))
+    ≡ Ok (record {
+      programs = record {
+        line = 2;
+        path = codes "f";
+        list = None;
+        ignore_imports = false;
+        policy_live = false;
+        area = record { at = 0; len = 8 };
+        area_line = 3;
+        steps = 100000000;
+        globals = [];
+        binds = [];
+        entries = [];
+        answers = [];
+        shows = [];
+      } ∷ [];
+      detaches = [];
+      mailboxes = record { line = 1; name = codes "a" } ∷ record { line = 4; name = codes "b" } ∷ [];
+    })
+unfolding script_text is_utf8 chars encode digits
+two_mailboxes = refl
+
+-- a mailbox's line is no program's
+early_behind_mailbox : fault (script_text (line (codes "mailbox a") (codes "area 0 64"))) ≡ Some (breaks 2 5)
+unfolding script_text is_utf8 chars encode digits
+early_behind_mailbox = refl
+
+-- a name is declared twice, however it is spelled and whatever stands between: the second line is bad; names that differ aren't
+doubled : (fault (script_text (line (codes "mailbox ab") (program_lines (program_lines (codes "mailbox a%62"))))) ≡ Some (breaks 6 17))
+    × (fault (script_text (line (codes "mailbox a") (line (codes "mailbox b") (line (codes "mailbox a") (codes "mailbox b"))))) ≡ Some (breaks 3 17))
+    × (fault (script_text (line (codes "mailbox a") (codes "mailbox A"))) ≡ None)
+unfolding script_text is_utf8 chars encode digits
+doubled = (refl, refl, refl)
+
+-- a device of the name and an import of it are no mailboxes
+not_doubled : fault (script_text (program_lines (line (codes "device env.a a") (line (codes "detach a 1") (codes "mailbox a"))))) ≡ None
+unfolding script_text is_utf8 chars encode digits
+not_doubled = refl
+
+-- the first bad line decides: a name declared twice before a program that has no area, and behind an earlier bad line
+doubled_first : (fault (script_text (line (codes "program f") (line (codes "mailbox a") (codes "mailbox a")))) ≡ Some (breaks 3 17))
+    × (fault (script_text (line (codes "mailbox a") (line (codes "save some") (codes "mailbox a")))) ≡ Some (breaks 2 3))
+unfolding script_text is_utf8 chars encode digits
+doubled_first = (refl, refl)
+
 -- ---- devices
 
 -- the line of the first `device` line
@@ -253,6 +307,20 @@ no_device = refl
 first_device : device_at (script_text (program_lines (program_lines (line (codes "device env.b d") (program_lines (codes "device env.a d")))))) ≡ Some 5
 unfolding script_text is_utf8 chars encode digits
 first_device = refl
+
+-- the line of the first `device` or `mailbox` line
+abbrev sharing_at : Result Script ScriptFault → Option ℕ
+sharing_at (Ok s) = sharing_line s
+sharing_at (Err f) = None
+
+-- whichever comes first, and not the line of a `detach`
+sharing : (sharing_at (script_text (program_lines (codes "detach d 1"))) ≡ None)
+    × (sharing_at (script_text (program_lines (line (codes "device env.b d") (line (codes "mailbox a") (codes "mailbox b"))))) ≡ Some 3)
+    × (sharing_at (script_text (program_lines (line (codes "mailbox b") (codes "device env.b d")))) ≡ Some 3)
+    × (sharing_at (script_text (line (codes "mailbox a") (program_lines []))) ≡ Some 1)
+    × (sharing_at (script_text (program_lines (program_lines (codes "device env.a d")))) ≡ Some 5)
+unfolding script_text is_utf8 chars encode digits
+sharing = (refl, refl, refl, refl, refl)
 
 -- ---- printed lines
 

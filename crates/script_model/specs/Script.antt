@@ -1,5 +1,5 @@
--- Scripts as plain data: programs, each with the line at which each of its parts stands, and the devices that are taken out.
-use Rattle.std.specs.Prelude.{ℕ, List, Option, Bool, slice_get}
+-- Scripts as plain data: programs, each with the line at which each of its parts stands, the devices that are taken out, and mailboxes.
+use Rattle.std.specs.Prelude.{ℕ, List, Option, Some, None, Bool, nat_le, slice_get, if◌then◌else◌}
 use Rattle.std.specs.List.{flat_map}
 use Rattle.std.specs.Option.{option_map}
 use Rattle.wa_types.specs.declared.values.Value.{Value}
@@ -12,7 +12,7 @@ pub record GlobalText : Type 0 where
   pub name : List ℕ
   pub value : Value
 
--- The device to which the function imports of a joined name are bound.
+-- The device or mailbox to which the function imports of a joined name are bound.
 pub record BindText : Type 0 where
   pub line : ℕ
   pub import : List ℕ
@@ -52,14 +52,34 @@ pub record ProgramText : Type 0 where
   pub answers : List AnswerLine
   pub shows : List ShowText
 
--- A script: its programs, and the devices that it takes out.
+-- A mailbox, by which programs wait for one another.
+pub record MailboxText : Type 0 where
+  pub line : ℕ
+  pub name : List ℕ
+
+-- A script: its programs, the devices that it takes out, and its mailboxes.
 pub record Script : Type 0 where
   pub programs : List ProgramText
   pub detaches : List DetachText
+  pub mailboxes : List MailboxText
 
 -- the line of the first `device` line of all programs, where there is one
 abbrev pub device_line : Script → Option ℕ
 device_line s = option_map (λ (b : BindText). b.line) (slice_get (flat_map (λ (t : ProgramText). t.binds) s.programs) 0)
+
+-- the line of the first `mailbox` line, where there is one
+abbrev pub mailbox_line : Script → Option ℕ
+mailbox_line s = option_map (λ (m : MailboxText). m.line) (slice_get s.mailboxes 0)
+
+-- the lesser of two lines, where they are told
+abbrev pub lesser_line : Option ℕ → Option ℕ → Option ℕ
+lesser_line (Some a) (Some b) = Some (if nat_le a b then a else b)
+lesser_line (Some a) None = Some a
+lesser_line None other = other
+
+-- the line of the first `device` or `mailbox` line, where there is one
+abbrev pub sharing_line : Script → Option ℕ
+sharing_line s = lesser_line (device_line s) (mailbox_line s)
 
 -- Why a text is no script: a rule that a line breaks, lines being counted from 1, or more programs than there may be.
 pub data ScriptFault : Type 0 where

@@ -2,12 +2,13 @@
 use Rattle.std.specs.Prelude.{◌≡◌, ℕ, suc, nat_eq, not, ◌&&◌, ◌||◌, if◌then◌else◌, List, [], ◌∷◌, length, Option, Some, None, Bool, true, false, Result, Ok, Err, slice_get}
 use Rattle.std.specs.Option.{unwrap_or}
 use Rattle.std.specs.List.{filter, filter_map, list_any}
+use Rattle.std.specs.Str.{bytes_eq}
 use Rattle.std.specs.Str.Lines.{lines}
 use Rattle.wa_types.specs.Pausing.{Entry, ListError, list_of}
 use Rattle.wa_model.specs.declared.answers.Area.{Area}
 use Rattle.wa_model.specs.Outside.{AnswerLine}
-use Rattle.script_model.specs.Script.{GlobalText, BindText, EntryText, ShowText, DetachText, ProgramText, Script, ScriptFault, breaks, too_many}
-use Rattle.script_model.specs.ScriptLines.{Statement, begins_program, lists_imports, ignores_imports, saves, has_area, has_steps, sets_global, binds, enters, answers, shows, detaches, line_says}
+use Rattle.script_model.specs.Script.{GlobalText, BindText, EntryText, ShowText, DetachText, MailboxText, ProgramText, Script, ScriptFault, breaks, too_many}
+use Rattle.script_model.specs.ScriptLines.{Statement, begins_program, lists_imports, ignores_imports, saves, has_area, has_steps, sets_global, binds, enters, answers, shows, detaches, has_mailbox, line_says}
 
 -- a script has at most so many programs
 abbrev pub most_programs : ℕ
@@ -28,6 +29,11 @@ is_program _ = false
 abbrev pub is_detach : Statement → Bool
 is_detach (detaches device before) = true
 is_detach _ = false
+
+-- a mailbox is declared
+abbrev pub is_mailbox : Statement → Bool
+is_mailbox (has_mailbox name) = true
+is_mailbox _ = false
 
 -- it is told which imports are listed
 abbrev pub tells_imports : Statement → Bool
@@ -76,13 +82,23 @@ abbrev pub has_bad_list : Statement → Bool
 has_bad_list (lists_imports list) = is_error (list_of list)
 has_bad_list _ = false
 
--- Other lines than of programs and devices stand behind the first program's line.
+-- Other lines than `program`, `detach` and `mailbox` stand behind the first program's line.
 abbrev pub is_early : Statement → (earlier : List Statement) → Bool
-is_early s earlier = not (is_program s || is_detach s) && not (list_any is_program earlier)
+is_early s earlier = not (is_program s || (is_detach s || is_mailbox s)) && not (list_any is_program earlier)
 
 -- a program begins behind as many as there may be
 abbrev pub is_one_too_many : Statement → (earlier : List Statement) → Bool
 is_one_too_many s earlier = is_program s && nat_eq (length (filter is_program earlier)) most_programs
+
+-- it declares a mailbox of this name
+abbrev pub declares : (name : List ℕ) → Statement → Bool
+declares name (has_mailbox other) = bytes_eq other name
+declares name _ = false
+
+-- a mailbox is declared whose name was declared before
+abbrev pub is_doubled : Statement → (earlier : List Statement) → Bool
+is_doubled (has_mailbox name) earlier = list_any (declares name) earlier
+is_doubled _ earlier = false
 
 -- what a line breaks by what stands before it, the nearest first
 abbrev pub fault_of : (line : ℕ) → (earlier : List Statement) → Statement → Option ScriptFault
@@ -90,7 +106,8 @@ fault_of line earlier s =
     if is_early s earlier then Some (breaks line 5)
     else (if is_one_too_many s earlier then Some (too_many (suc most_programs))
     else (if is_repeated s (in_program earlier) then Some (breaks line 6)
-    else (if has_bad_list s then Some (breaks line 8) else None)))
+    else (if has_bad_list s then Some (breaks line 8)
+    else (if is_doubled s earlier then Some (breaks line 17) else None))))
 
 -- a statement and the number of its line, counted from 1
 pub record Numbered : Type 0 where
@@ -201,6 +218,11 @@ abbrev pub detach_of : Statement → Option DetachText
 detach_of (detaches device before) = Some (record { device = device; before = before })
 detach_of _ = None
 
+-- the mailbox that a statement declares
+abbrev pub mailbox_of : (line : ℕ) → Statement → Option MailboxText
+mailbox_of line (has_mailbox name) = Some (record { line = line; name = name })
+mailbox_of line _ = None
+
 -- what some of the statements tell, in order
 abbrev pub told_by : {A : Type 0} → (Statement → Option A) → List Numbered → List A
 told_by tells ss = filter_map (λ (s : Numbered). tells s.says) ss
@@ -239,13 +261,13 @@ programs_of [] = Ok []
 programs_of (g ∷ gs) = with_program g (slice_get (lines_by area_of g.told) 0) (programs_of gs)
 
 -- a script of these programs, where they have no fault
-abbrev pub with_programs : List DetachText → Result (List ProgramText) ScriptFault → Result Script ScriptFault
-with_programs ds (Ok programs) = Ok (record { programs = programs; detaches = ds })
-with_programs ds (Err f) = Err f
+abbrev pub with_programs : List DetachText → List MailboxText → Result (List ProgramText) ScriptFault → Result Script ScriptFault
+with_programs ds boxes (Ok programs) = Ok (record { programs = programs; detaches = ds; mailboxes = boxes })
+with_programs ds boxes (Err f) = Err f
 
 -- the script of statements, where they have no fault
 abbrev pub script_of : Result (List Numbered) ScriptFault → Result Script ScriptFault
-script_of (Ok ss) = with_programs (told_by detach_of ss) (programs_of (grouped ss).groups)
+script_of (Ok ss) = with_programs (told_by detach_of ss) (lines_by mailbox_of ss) (programs_of (grouped ss).groups)
 script_of (Err f) = Err f
 
 -- The script that a text is, or its fault. Lines end in LF, and a CR before it is dropped.

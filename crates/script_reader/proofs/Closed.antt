@@ -2,7 +2,7 @@
 use Rattle.std.proofs.Common.{◌≡◌, ℕ, ◌||◌, Bool, true, false, Option, Some, None, Result, Ok, Err, List, [], ◌∷◌, ◌++◌, map, sym, ap, ◌∙◌, refl, append_assoc, append-nil, slice_get}
 use Rattle.std.specs.List.{list_any}
 use Rattle.script_model.specs.Script.{ProgramText, ScriptFault, breaks}
-use Rattle.script_model.specs.ScriptLines.{Statement, begins_program, lists_imports, ignores_imports, saves, has_area, has_steps, sets_global, binds, enters, answers, shows, detaches, or_else}
+use Rattle.script_model.specs.ScriptLines.{Statement, begins_program, lists_imports, ignores_imports, saves, has_area, has_steps, sets_global, binds, enters, answers, shows, detaches, has_mailbox, or_else}
 use Rattle.script_model.specs.ScriptText.{Numbered, Group, AreaText, told_by, lines_by, list_of_statement, is_ignore, live_of_statement, area_of, steps_of, global_of, bind_of, entry_of}
 use Rattle.script_model.specs.ScriptText.{answer_of, show_of, with_program, programs_of}
 use Rattle.script_reader.specs.Drafts.{Draft, begun, more_told, told_with, one_more, closed}
@@ -80,6 +80,7 @@ told_one line (enters name args) d ss = ap (λ xs. record (told_more d ss) { ent
 told_one line (answers answer) d ss = ap (λ xs. record (told_more d ss) { answers = xs }) (append_assoc d.answers _ (told_by answer_of ss))
 told_one line (shows at len) d ss = ap (λ xs. record (told_more d ss) { shows = xs }) (append_assoc d.shows _ (lines_by show_of ss))
 told_one line (detaches device before) d ss = refl
+told_one line (has_mailbox name) d ss = refl
 
 folded_is : (ss : List Numbered) (d : Draft) → folded d ss ≡ told_more d ss
 folded_is [] d = sym (told_nothing d)

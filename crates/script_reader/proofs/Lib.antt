@@ -1,5 +1,6 @@
 pub mod Closed
 pub mod Cut
+mod DeclaredNames
 pub mod Devices
 mod Lists
 pub mod Numerals

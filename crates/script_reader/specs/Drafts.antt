@@ -1,9 +1,11 @@
 -- What is known of a script while its lines are read: the program that is being told, and those told before it.
 use Rattle.std.specs.Prelude.{ℕ, suc, ◌+◌, nat_le, ◌||◌, if◌then◌else◌, List, [], ◌∷◌, ◌++◌, Option, Some, None, Bool, true, false, Result, Ok, Err}
 use Rattle.std.specs.Option.{unwrap_or, is_some}
+use Rattle.std.specs.List.{list_any}
+use Rattle.std.specs.Str.{bytes_eq}
 use Rattle.wa_model.specs.Outside.{AnswerLine}
-use Rattle.script_model.specs.Script.{GlobalText, BindText, EntryText, ShowText, DetachText, ProgramText, Script, ScriptFault, breaks, too_many}
-use Rattle.script_model.specs.ScriptLines.{Statement, begins_program, lists_imports, ignores_imports, saves, has_area, has_steps, sets_global, binds, enters, answers, shows, detaches, or_else}
+use Rattle.script_model.specs.Script.{GlobalText, BindText, EntryText, ShowText, DetachText, MailboxText, ProgramText, Script, ScriptFault, breaks, too_many}
+use Rattle.script_model.specs.ScriptLines.{Statement, begins_program, lists_imports, ignores_imports, saves, has_area, has_steps, sets_global, binds, enters, answers, shows, detaches, has_mailbox, or_else}
 use Rattle.script_model.specs.ScriptLines.{line_says}
 use Rattle.script_model.specs.ScriptText.{AreaText, default_steps, most_programs, has_bad_list, with_programs}
 
@@ -99,16 +101,17 @@ abbrev pub closed_last : Result (List ProgramText) ScriptFault → Option Draft 
 closed_last programs None = programs
 closed_last programs (Some d) = closed programs d
 
--- The programs before the one that is being told, how many were begun, that one, and the devices that are taken out.
+-- The programs before the one that is being told, how many were begun, that one, the devices that are taken out, and the mailboxes.
 pub record Reading : Type 0 where
   pub programs : Result (List ProgramText) ScriptFault
   pub count : ℕ
   pub current : Option Draft
   pub detached : List DetachText
+  pub mailboxes : List MailboxText
 
 -- nothing yet
 abbrev pub nothing_read : Reading
-nothing_read = record { programs = Ok []; count = 0; current = None; detached = [] }
+nothing_read = record { programs = Ok []; count = 0; current = None; detached = []; mailboxes = [] }
 
 -- a fault, where there is one, else what was made
 abbrev pub or_fault : {A : Type 0} → Option ScriptFault → A → Result A ScriptFault
@@ -119,7 +122,20 @@ or_fault None x = Ok x
 abbrev pub with_program : (line : ℕ) → (path : List ℕ) → Reading → Result Reading ScriptFault
 with_program line path r =
     if nat_le most_programs r.count then Err (too_many (suc most_programs))
-    else Ok (record { programs = closed_last r.programs r.current; count = r.count + 1; current = Some (begun line path); detached = r.detached })
+    else Ok (record { programs = closed_last r.programs r.current; count = r.count + 1; current = Some (begun line path); detached = r.detached; mailboxes = r.mailboxes })
+
+-- one of these mailboxes has this name
+abbrev pub is_declared : (name : List ℕ) → List MailboxText → Bool
+is_declared name boxes = list_any (λ (m : MailboxText). bytes_eq m.name name) boxes
+
+-- one more mailbox, whose name isn't declared before, which rule 17 asks for
+abbrev pub on_mailboxes : (line : ℕ) → (name : List ℕ) → List MailboxText → Result (List MailboxText) ScriptFault
+on_mailboxes line name boxes = or_fault (if is_declared name boxes then Some (breaks line 17) else None) (boxes ++ record { line = line; name = name } ∷ [])
+
+-- the same with these mailboxes, where they have no fault
+abbrev pub with_mailboxes : Reading → Result (List MailboxText) ScriptFault → Result Reading ScriptFault
+with_mailboxes r (Ok boxes) = Ok (record r { mailboxes = boxes })
+with_mailboxes r (Err f) = Err f
 
 -- a statement on the program that is being told
 abbrev pub on_program : (line : ℕ) → Statement → Option Draft → Result Draft ScriptFault
@@ -135,6 +151,7 @@ with_current r (Err f) = Err f
 abbrev pub with_statement : (line : ℕ) → Statement → Reading → Result Reading ScriptFault
 with_statement line (begins_program path) r = with_program line path r
 with_statement line (detaches device before) r = Ok (record r { detached = r.detached ++ record { device = device; before = before } ∷ [] })
+with_statement line (has_mailbox name) r = with_mailboxes r (on_mailboxes line name r.mailboxes)
 with_statement line s r = with_current r (on_program line s r.current)
 
 -- a line more, by what it says
@@ -145,7 +162,7 @@ with_line line (Ok (Some s)) r = with_statement line s r
 
 -- the script, once all lines are read
 abbrev pub ended : Reading → Result Script ScriptFault
-ended r = with_programs r.detached (closed_last r.programs r.current)
+ended r = with_programs r.detached r.mailboxes (closed_last r.programs r.current)
 
 -- the rest is read, where there was no fault
 abbrev pub and_then : Result Reading ScriptFault → (Reading → Result Script ScriptFault) → Result Script ScriptFault

@@ -1,4 +1,5 @@
 pub mod Drafts
+pub mod MailboxNames
 pub mod Reading
 pub mod ReadingParts
 pub mod Statements

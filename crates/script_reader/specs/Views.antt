@@ -17,6 +17,7 @@ use Rattle.script_reader.specs.declared.drafts.Draft.{Draft}
 use Rattle.script_reader.specs.declared.drafts.AreaLine.{AreaLine}
 use Rattle.script_reader.specs.declared.reading.Reading.{Reading}
 use Rattle.script_reader.specs.Drafts as D
+pub use Rattle.script_reader.specs.MailboxNames.{mailbox_of}
 
 -- a line of globals
 abbrev pub global_of : GlobalText → T.GlobalText
@@ -58,7 +59,7 @@ program_of p = record {
 
 -- a script
 abbrev pub script_of : Script → T.Script
-script_of s = record { programs = map program_of s.programs.items; detaches = map detach_of s.detaches.items }
+script_of s = record { programs = map program_of s.programs.items; detaches = map detach_of s.detaches.items; mailboxes = map mailbox_of s.mailboxes.items }
 
 -- ---- while lines are read
 
@@ -90,7 +91,7 @@ programs_of (Some line) programs = Err (T.breaks line 7)
 
 -- what is known of a script so far
 abbrev pub reading_of : Reading → D.Reading
-reading_of r = record { programs = programs_of r.missing r.programs.items; count = r.count; current = option_map draft_of r.current; detached = map detach_of r.detaches.items }
+reading_of r = record { programs = programs_of r.missing r.programs.items; count = r.count; current = option_map draft_of r.current; detached = map detach_of r.detaches.items; mailboxes = r.mailboxes }
 
 -- ---- answers
 

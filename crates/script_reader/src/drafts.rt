@@ -87,6 +87,7 @@ pub(crate) fn put_statement(
         Statement::Answer(answer) => put_answer(draft, line, answer),
         Statement::Show { at, len } => put_show(draft, line, at, len),
         Statement::Detach(_) => Ok(()),
+        Statement::Mailbox(_) => Ok(()),
     }
 }
 

@@ -20,6 +20,7 @@ pub(crate) enum Keyword {
     Answer,
     Show,
     Detach,
+    Mailbox,
 }
 
 pub(crate) fn keyword_in(word: &str) -> Option<Keyword>
@@ -74,6 +75,16 @@ fn behind_device(word: &str) -> Option<Keyword>
     }
     if "detach" == word {
         return Some(Keyword::Detach);
+    }
+    behind_detach(word)
+}
+
+// And behind `detach`.
+fn behind_detach(word: &str) -> Option<Keyword>
+    ensures { option_map keyword_of result ≡ keyword_among (drop 12 keywords) word.now }
+{
+    if "mailbox" == word {
+        return Some(Keyword::Mailbox);
     }
     None
 }

@@ -12,11 +12,11 @@
 //!
 //! The text is read in one pass, which copies a word where it is kept. Each line goes through four steps (`line_says` of `script_model`,
 //! the least rule where more are broken): it is UTF-8, and is cut into words at spaces and tabs, in which `%hh` stands for a byte; its
-//! first word is one of twelve; the words behind it are of that line's form; and their numbers, values and bytes are of theirs.
+//! first word is one of thirteen; the words behind it are of that line's form; and their numbers, values and bytes are of theirs.
 //!
 //! - `word_fault`, `words`, `numbers`, `bytes`: why a line says nothing; words, numbers and values in decimal, bytes in hexadecimal digits.
 //! - `keywords`, `answers`, `statements`: first words, lines that answer a call, and what a line says.
-//! - `script`, `drafts`: a script as it was read, and the program that is being told.
+//! - `script`, `drafts`, `mailboxes`: a script as it was read, the program that is being told, and the mailboxes so far.
 //! - `faults`, `lines`, `reading`: why a text is no script, its lines, and `read_script`.
 #![tactic(auto)]
 
@@ -26,6 +26,7 @@ mod drafts;
 mod faults;
 mod keywords;
 mod lines;
+mod mailboxes;
 mod numbers;
 mod reading;
 mod script;
@@ -36,4 +37,6 @@ mod words;
 pub use faults::ScriptFault;
 pub use numbers::number_within;
 pub use reading::read_script;
-pub use script::{BindText, EntryText, GlobalText, ProgramText, Script, ShowText, device_line};
+pub use script::{
+    BindText, EntryText, GlobalText, MailboxText, ProgramText, Script, ShowText, sharing_line,
+};

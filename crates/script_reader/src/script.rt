@@ -1,7 +1,7 @@
-//! A script as it was read: its programs with their lines, and the devices that it takes out.
+//! A script as it was read: its programs with their lines, the devices that it takes out, and its mailboxes.
 
 ghost use Rattle.std.specs.Prelude.{◌≡◌};
-ghost use Rattle.script_model.specs.Script.{device_line};
+ghost use Rattle.script_model.specs.Script.{device_line, lesser_line, mailbox_line, sharing_line};
 ghost use Rattle.script_reader.specs.Views.{script_of};
 
 use wa_model::{AnswerLine, Area, Detach};
@@ -15,7 +15,7 @@ pub struct GlobalText {
     pub value: Value,
 }
 
-/// The device to which the function imports of a joined name are bound, told at this line.
+/// The device or mailbox to which the function imports of a joined name are bound, told at this line.
 #[derive(Drop)]
 pub struct BindText {
     pub line: u32,
@@ -59,15 +59,46 @@ pub struct ProgramText {
     pub shows: Vec<ShowText>,
 }
 
-/// The programs of a script, and the devices that are taken out.
+/// A mailbox, by which programs wait for one another, declared at this line.
+#[derive(Drop)]
+pub struct MailboxText {
+    pub line: u32,
+    pub name: Name,
+}
+
+/// The programs of a script, the devices that are taken out, and the mailboxes, no two of one name.
 #[derive(Drop)]
 pub struct Script {
     pub programs: Vec<ProgramText>,
     pub detaches: Vec<Detach>,
+    pub mailboxes: Vec<MailboxText>,
 }
 
-/// The line of the first `device` line of a script, where it has one.
-pub fn device_line(script: &Script) -> Option<u32>
+/// The line of the first `device` or `mailbox` line of a script, where it has one.
+pub fn sharing_line(script: &Script) -> Option<u32>
+    ensures { result ≡ sharing_line (script_of script.now) }
+{
+    lesser_line(device_line(script), mailbox_line(script))
+}
+
+fn mailbox_line(script: &Script) -> Option<u32>
+    ensures { result ≡ mailbox_line (script_of script.now) }
+{
+    let mailbox = script.mailboxes.first()?;
+    Some(mailbox.line)
+}
+
+fn lesser_line(one: Option<u32>, other: Option<u32>) -> Option<u32>
+    ensures { result ≡ lesser_line one other }
+{
+    match (one, other) {
+        (Some(one), Some(other)) => Some(one.min(other)),
+        (Some(one), None) => Some(one),
+        (None, other) => other,
+    }
+}
+
+fn device_line(script: &Script) -> Option<u32>
     ensures { result ≡ device_line (script_of script.now) }
 {
     for program in &script.programs {

@@ -1,6 +1,6 @@
 //! Statements: what a line says, by its first word and those behind it.
 
-ghost use Rattle.script_model.specs.ScriptLines.{all_values, area_word, detach_word, device_word, enter_word, global_word, ignore_imports_word, imports_word, line_says, program_word, save_word, says, says_policy, says_with, show_word, steps_word, words_say};
+ghost use Rattle.script_model.specs.ScriptLines.{all_values, area_word, detach_word, device_word, enter_word, global_word, ignore_imports_word, imports_word, line_says, mailbox_word, program_word, save_word, says, says_policy, says_with, show_word, steps_word, words_say};
 ghost use Rattle.std.specs.Prelude.{◌≡◌, ◌∷◌, ◌++◌, [], IfOk, OnOk, Some};
 ghost use Rattle.std.specs.Option.{option_map};
 ghost use Rattle.script_reader.specs.Reading.{Reads, or_breaks};
@@ -40,6 +40,8 @@ pub enum Statement {
     /// Memory is shown after the end, from 1 to 4,096 bytes.
     Show { at: u32, len: u32 },
     Detach(Detach),
+    /// A mailbox of this name is declared.
+    Mailbox(Name),
 }
 
 /// What a line says, its end aside: nothing where it has no words or begins with `#`.
@@ -92,6 +94,7 @@ fn says(alloc: Global, keyword: Keyword, words: &[Name]) -> Result<Statement, Li
         Keyword::Answer => answer_line(alloc, words),
         Keyword::Show => show_line(words),
         Keyword::Detach => detach_line(alloc, words),
+        Keyword::Mailbox => mailbox_line(alloc, words),
     }
 }
 
@@ -248,6 +251,15 @@ fn detach_line(alloc: Global, words: &[Name]) -> Result<Statement, LineFault>
             let device = copied(alloc, device)?;
             Ok(Statement::Detach(Detach { device, before }))
         }
+        _ => Err(LineFault::Rule(3)),
+    }
+}
+
+fn mailbox_line(alloc: Global, words: &[Name]) -> Result<Statement, LineFault>
+    ensures { Reads statement_of result (says mailbox_word words.now) }
+{
+    match words {
+        [name] => Ok(Statement::Mailbox(copied(alloc, name)?)),
         _ => Err(LineFault::Rule(3)),
     }
 }

@@ -5,8 +5,8 @@ use Rattle.std.specs.List.{filter}
 use Rattle.std.specs.Str.Lines.{lines}
 use Rattle.std.proofs.lemmas.Bool.{eqb-false}
 use Rattle.script_model.specs.Script.{ProgramText, Script, ScriptFault, breaks, too_many}
-use Rattle.script_model.specs.ScriptLines.{Statement, begins_program, lists_imports, ignores_imports, saves, has_area, has_steps, sets_global, binds, enters, answers, shows, detaches, line_says}
-use Rattle.script_model.specs.ScriptText.{AreaText, Group, Numbered, area_of, fault_of, grouped, grouped_with, has_bad_list, in_program, is_early, is_one_too_many, is_program, is_repeated, lines_by, onto, program_of, programs_of, script_of, script_text, statements, told_by, detach_of, unless_fault, with_line, with_program, with_programs}
+use Rattle.script_model.specs.ScriptLines.{Statement, begins_program, lists_imports, ignores_imports, saves, has_area, has_steps, sets_global, binds, enters, answers, shows, detaches, has_mailbox, line_says}
+use Rattle.script_model.specs.ScriptText.{AreaText, Group, Numbered, area_of, fault_of, grouped, grouped_with, has_bad_list, in_program, is_doubled, is_early, lines_by, mailbox_of, is_one_too_many, is_program, is_repeated, onto, program_of, programs_of, script_of, script_text, statements, told_by, detach_of, unless_fault, with_line, with_program, with_programs}
 use Rattle.script_setup.specs.Scripts.{IsScript}
 
 -- ---- lines of programs
@@ -33,7 +33,8 @@ room_for : (line : ℕ) (earlier : List Statement) (s : Statement) → fault_of 
 room_for line earlier s e le = by (is_program s) (nat_eq (begun earlier) 16) refl (more (is_early s earlier) (is_one_too_many s earlier) e) (begun_more s earlier) where
   more : (early many : Bool) → (if early then Some (breaks line 5) else (if many then Some (too_many 17)
       else (if is_repeated s (in_program earlier) then Some (breaks line 6)
-      else (if has_bad_list s then Some (breaks line 8) else None)))) ≡ None → many ≡ false
+      else (if has_bad_list s then Some (breaks line 8)
+      else (if is_doubled s earlier then Some (breaks line 17) else None))))) ≡ None → many ≡ false
   more true many h = cc
   more false true h = cc
   more false false h = refl
@@ -92,6 +93,7 @@ groups_told (s ∷ ss) = by s.says (groups_told ss) where
   by (answers line) e = omega (arith, e)
   by (shows at len) e = omega (arith, e)
   by (detaches device before) e = omega (arith, e)
+  by (has_mailbox name) e = omega (arith, e)
 
 as_many : (gs : List Group) (programs : List ProgramText) → programs_of gs ≡ Ok programs → length programs ≡ length gs
 as_many [] programs e =
@@ -116,7 +118,7 @@ programs_in (Err f) = []
 few_of : (r : Result (List Numbered) ScriptFault) (s : Script) → ((ss : List Numbered) → r ≡ Ok ss → Few [] ss) → script_of r ≡ Ok s → length s.programs ≤ 16
 few_of (Err f) s few e = cc
 few_of (Ok ss) s few e = by (programs_of (grouped ss).groups) refl e where
-  by : (r : Result (List ProgramText) ScriptFault) → programs_of (grouped ss).groups ≡ r → with_programs (told_by detach_of ss) r ≡ Ok s → length s.programs ≤ 16
+  by : (r : Result (List ProgramText) ScriptFault) → programs_of (grouped ss).groups ≡ r → with_programs (told_by detach_of ss) (lines_by mailbox_of ss) r ≡ Ok s → length s.programs ≤ 16
   by (Err f) is h = cc
   by (Ok programs) is h =
       let same : programs ≡ s.programs = ap programs_in h in

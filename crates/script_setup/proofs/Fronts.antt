@@ -1,5 +1,5 @@
 -- What holds of the front of a script that was read holds of the file; what is told of a module.
-use Rattle.std.proofs.Common.{◌≡◌, inl, inr, ℕ, List, Option, Some, None, sym, subst, take, arith, Result, Ok, Err}
+use Rattle.std.proofs.Common.{◌≡◌, inl, inr, ℕ, List, Option, Some, None, subst, take, arith, Result, Ok, Err}
 use Rattle.std.specs.Prelude.{IsSome}
 use Rattle.std.specs.Result.{IfErr}
 use Rattle.std.proofs.lemmas.List.{take_all, length-take}

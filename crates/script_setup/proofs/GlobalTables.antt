@@ -1,6 +1,6 @@
 -- Tables of imported globals and of the lines that set them, one more item behind those before it.
 use Rattle.std.proofs.Common.{◌≡◌, ℕ, ◌+◌, ◌<◌, ◌≤◌, List, [], ◌∷◌, ◌++◌, length, map, get_or, take, Option, Some, None, Bool, true, false, cond, ◌||◌, ◌&&◌, not, ap, sym, ◌∙◌, refl, if◌then◌else◌}
-use Rattle.std.specs.List.{list_any, filter_map, cons_option}
+use Rattle.std.specs.List.{filter_map, cons_option}
 use Rattle.std.specs.Str.{bytes_eq}
 use Rattle.std.proofs.lemmas.List.{take_more, take_all, map_more}
 use Rattle.std.proofs.lemmas.List.Folds.{list_any-append}
@@ -28,7 +28,7 @@ use Rattle.script_model.specs.ScriptLines.{or_else}
 use Rattle.script_reader.specs.declared.script.GlobalText.{GlobalText as GlobalValue}
 use Rattle.script_reader.specs.Views.{global_of}
 use Rattle.script_setup.specs.declared.globals.Types.{Types}
-use Rattle.script_setup.specs.SetUpRules.{has_type, is_global, imports_global, is_set, last_value, other_type, value_or_zero, global_values}
+use Rattle.script_setup.specs.SetUpRules.{has_type, is_global, imports_global, is_set, last_value, other_type, value_or_zero}
 use Rattle.script_setup.specs.Tables.{no_types, types_in, value_in, with_type, with_global, types_of, is_lawful}
 
 -- ---- types

@@ -1,5 +1,5 @@
 -- The values that a program's imported globals are given have their types.
-use Rattle.std.proofs.Common.{◌≡◌, ℕ, suc, ◌+◌, ◌<◌, List, [], ◌∷◌, length, map, Option, Some, None, Bool, true, false, ◌||◌, ◌&&◌, not, cond, ap, sym, ◌∙◌, refl, subst, if◌then◌else◌}
+use Rattle.std.proofs.Common.{◌≡◌, ℕ, suc, ◌+◌, List, [], ◌∷◌, length, map, Option, Some, None, Bool, true, false, ◌||◌, ◌&&◌, not, cond, ap, sym, ◌∙◌, refl, if◌then◌else◌}
 use Rattle.std.proofs.Common.{position, arith, nat_lt, Result, Ok, Err}
 use Rattle.std.specs.List.{list_any, filter_map, cons_option, position_or_len}
 use Rattle.std.specs.Option.{unwrap_or}
@@ -16,12 +16,12 @@ use Rattle.wa_types.specs.Pausing.{joined_name}
 use Rattle.wa_types.specs.Syntax.{Module}
 use Rattle.wa_types.specs.Typing.{GlobalType, type_of}
 use Rattle.run_theory.specs.Fitting.{types_of, global_types}
-use Rattle.script_model.specs.Script.{GlobalText, ProgramText, ScriptFault}
+use Rattle.script_model.specs.Script.{GlobalText, ProgramText}
 use Rattle.script_model.specs.ScriptLines.{or_else}
 use Rattle.wa_model.specs.Step.{zero_of}
 use Rattle.host_setup.specs.SetUp as H
 use Rattle.script_setup.specs.SetUpRules.{SetUp, has_type, is_global, imports_global, is_set, other_type, bad_global, last_value, value_or_zero, global_values, told_at, global_line}
-use Rattle.script_setup.specs.SetUpRules.{show_line, bad_show, lines_fault, unless_told, told_funcs, with_lines, set_up_rules, named_entry}
+use Rattle.script_setup.specs.SetUpRules.{show_line, bad_show, unless_told, told_funcs, told_line, misbound_line, with_lines, set_up_rules, named_entry}
 
 -- ---- no line is bad
 
@@ -142,23 +142,29 @@ module _ (imports : List Import) (gs : List GlobalText) (lawful : list_any (unse
 
 -- ---- of a set-up
 
-no_bad : (o p : Option ℕ) (runs : Bool) (t : ProgramText) (x y : SetUp) → unless_told (or_else (told_at 14 (global_line t) o) (told_at 15 (show_line t) p)) x ≡ Ok y → (o ≡ None) × (x ≡ y)
-no_bad (Some i) p runs t x y e = cc
-no_bad None (Some i) runs t x y e = cc
-no_bad None None runs t x y e = (refl, cc)
+no_bad : (o p n : Option ℕ) (t : ProgramText) (x y : SetUp) → unless_told (or_else (told_at 14 (global_line t) o) (or_else (told_at 15 (show_line t) p) (told_line 16 n))) x ≡ Ok y
+    → (o ≡ None) × (n ≡ None) × (x ≡ y)
+no_bad (Some i) p n t x y e = cc
+no_bad None (Some i) n t x y e = cc
+no_bad None None (Some i) t x y e = cc
+no_bad None None None t x y e = (refl, refl, cc)
 
--- what a program is given: the functions of its entries, and values of its globals' types
-pub record Given (p : Module) (t : ProgramText) (up : SetUp) : Type 0 where
+-- what a program is given: the functions of its entries, and values of its globals' types; no import is bound to a mailbox that
+-- neither sends nor receives
+pub record Given (boxes : List (List ℕ)) (p : Module) (t : ProgramText) (up : SetUp) : Type 0 where
   pub funcs : H.set_up p t.area (map named_entry t.entries) ≡ Ok up.funcs
   pub globals : types_of up.globals ≡ global_types (imported imported_global p)
+  pub mail : misbound_line boxes p t.binds ≡ None
 
-pub given_by_rules : (runs : Bool) (p : Module) (t : ProgramText) (up : SetUp) → set_up_rules runs p t ≡ Ok up → Given p t up
-given_by_rules runs p t up e = by (H.set_up p t.area (map named_entry t.entries)) refl e where
-  by : (r : Result (List ℕ) H.Fault) → H.set_up p t.area (map named_entry t.entries) ≡ r → with_lines runs p.imports t (told_funcs t r) ≡ Ok up → Given p t up
+pub given_by_rules : (runs : Bool) (boxes : List (List ℕ)) (p : Module) (t : ProgramText) (up : SetUp) → set_up_rules runs boxes p t ≡ Ok up → Given boxes p t up
+given_by_rules runs boxes p t up e = by (H.set_up p t.area (map named_entry t.entries)) refl e where
+  by : (r : Result (List ℕ) H.Fault) → H.set_up p t.area (map named_entry t.entries) ≡ r → with_lines runs boxes p t (told_funcs t r) ≡ Ok up → Given boxes p t up
   by (Err f) is h = cc
   by (Ok funcs) is h =
-      let n = no_bad (bad_global p.imports t.globals) (bad_show runs t.area t.shows) runs t (record { funcs = funcs; globals = global_values p.imports t.globals }) up h in
+      let n = no_bad (bad_global p.imports t.globals) (bad_show runs t.area t.shows) (misbound_line boxes p t.binds) t
+      (record { funcs = funcs; globals = global_values p.imports t.globals }) up h in
       record {
-        funcs = is ∙ ap (λ (x : SetUp). Ok x.funcs) n.1;
-        globals = sym (ap (λ (x : SetUp). types_of x.globals) n.1) ∙ all_typed p.imports t.globals (none_found (unset p.imports) t.globals n.0) p.imports (λ name ty no. no);
+        funcs = is ∙ ap (λ (x : SetUp). Ok x.funcs) n.2;
+        globals = sym (ap (λ (x : SetUp). types_of x.globals) n.2) ∙ all_typed p.imports t.globals (none_found (unset p.imports) t.globals n.0) p.imports (λ name ty no. no);
+        mail = n.1;
       }

@@ -4,4 +4,5 @@ pub mod Fronts
 pub mod Gathered
 pub mod GlobalTables
 pub mod GlobalTypes
+pub mod Misbound
 pub mod Told

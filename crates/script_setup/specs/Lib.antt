@@ -1,4 +1,5 @@
 pub mod Bindings
+pub mod MailNames
 pub mod Places
 pub mod Prepared
 pub mod Scripts

@@ -1,5 +1,5 @@
 -- The set-up rules of scripts: what is asked of a program's lines once its module is there, and what the program is then given.
-use Rattle.std.specs.Prelude.{ℕ, ◌+◌, nat_lt, not, ◌&&◌, if◌then◌else◌, List, [], ◌∷◌, map, Option, Some, None, Bool, true, false, Result, Ok, Err, position, slice_get}
+use Rattle.std.specs.Prelude.{ℕ, ◌+◌, nat_lt, not, ◌&&◌, ◌||◌, if◌then◌else◌, List, [], ◌∷◌, map, Option, Some, None, Bool, false, Result, Ok, Err, position, slice_get}
 use Rattle.std.specs.List.{filter_map, list_any}
 use Rattle.std.specs.Option.{option_map, unwrap_or}
 use Rattle.std.specs.Str.{bytes_eq}
@@ -7,15 +7,15 @@ use Rattle.wa_types.specs.declared.values.ValType.{ValType}
 use Rattle.wa_types.specs.declared.values.ValType.TheVariants.{I32, I64}
 use Rattle.wa_types.specs.declared.values.Value.{Value}
 use Rattle.wa_types.specs.declared.syntax.Import.{Import}
-use Rattle.wa_types.specs.Syntax.{Module}
+use Rattle.wa_types.specs.Syntax.{FuncType, Module}
 use Rattle.wa_types.specs.Encoding.{same_type}
-use Rattle.wa_types.specs.Modules.{imported_global}
+use Rattle.wa_types.specs.Modules.{imported_func, imported_global, type_at}
 use Rattle.wa_types.specs.Pausing.{joined_name}
 use Rattle.wa_types.specs.Typing.{GlobalType, type_of}
 use Rattle.wa_model.specs.declared.answers.Area.{Area}
-use Rattle.script_model.specs.Script.{GlobalText, EntryText, ShowText, ProgramText, ScriptFault, breaks}
+use Rattle.script_model.specs.Script.{BindText, GlobalText, EntryText, ShowText, MailboxText, ProgramText, ScriptFault, breaks}
 use Rattle.script_model.specs.ScriptLines.{or_else}
-use Rattle.wa_model.specs.Step.{zero_of}
+use Rattle.wa_model.specs.Step.{same_func_type, zero_of}
 use Rattle.script_model.specs.Transcript.{Names}
 use Rattle.world_model.specs.World.{import_names}
 use Rattle.host_setup.specs.SetUp.{NamedEntry, Fault, area_bad, no_export, entry_missing, entry_is_import, arg_types, set_up}
@@ -85,6 +85,42 @@ bad_show runs area shows = if runs then position (overlaps area) shows else None
 abbrev pub show_line : ProgramText → ℕ → ℕ
 show_line t i = unwrap_or (option_map (λ (s : ShowText). s.line) (slice_get t.shows i)) 0
 
+-- ---- rule 16: mailboxes, to which an import is bound that sends or receives
+
+-- the names of mailboxes
+abbrev pub box_names : List MailboxText → List (List ℕ)
+box_names boxes = map (λ (m : MailboxText). m.name) boxes
+
+-- a function of this type sends or receives
+abbrev pub is_mail_type : FuncType → Bool
+is_mail_type t = same_func_type t (record { params = I32 ∷ []; results = [] }) || same_func_type t (record { params = []; results = I32 ∷ [] })
+
+-- a function, the index of whose type is told, does neither
+abbrev pub is_unfit : Module → Option ℕ → Bool
+is_unfit p None = false
+is_unfit p (Some sort) = not (is_mail_type (type_at p sort))
+
+-- it imports a function of this joined name that does neither
+abbrev pub is_unfit_import : Module → (name : List ℕ) → Import → Bool
+is_unfit_import p name i = bytes_eq (joined_name i) name && is_unfit p (imported_func i.kind)
+
+-- one of these lines binds the imports of this name
+abbrev pub is_bound : (name : List ℕ) → List BindText → Bool
+is_bound name binds = list_any (λ (b : BindText). bytes_eq name b.import) binds
+
+-- the line of the first that is bad, of those behind which no line binds the same imports
+abbrev pub winning_line : (is_bad : BindText → Bool) → List BindText → Option ℕ
+winning_line is_bad [] = None
+winning_line is_bad (b ∷ bs) = if not (is_bound b.import bs) && is_bad b then Some b.line else winning_line is_bad bs
+
+-- it names one of these mailboxes, and an import of its name neither sends nor receives
+abbrev pub is_misbound : (boxes : List (List ℕ)) → Module → BindText → Bool
+is_misbound boxes p b = list_any (bytes_eq b.device) boxes && list_any (is_unfit_import p b.import) p.imports
+
+-- the line of the first that does, of those that win
+abbrev pub misbound_line : (boxes : List (List ℕ)) → Module → List BindText → Option ℕ
+misbound_line boxes p binds = winning_line (is_misbound boxes p) binds
+
 -- ---- what a program is given
 
 -- the value that the last line of a name gives
@@ -111,9 +147,15 @@ abbrev pub told_at : (rule : ℕ) → (line : ℕ → ℕ) → Option ℕ → Op
 told_at rule line None = None
 told_at rule line (Some i) = Some (breaks (line i) rule)
 
--- the fault of a line of globals or of shown memory
-abbrev pub lines_fault : (runs : Bool) → List Import → ProgramText → Option ScriptFault
-lines_fault runs imports t = or_else (told_at 14 (global_line t) (bad_global imports t.globals)) (told_at 15 (show_line t) (bad_show runs t.area t.shows))
+-- a rule broken at this line, where one is told
+abbrev pub told_line : (rule : ℕ) → Option ℕ → Option ScriptFault
+told_line rule line = option_map (λ (n : ℕ). breaks n rule) line
+
+-- the fault of a line of globals, of shown memory or of a mailbox
+abbrev pub lines_fault : (runs : Bool) → (boxes : List (List ℕ)) → Module → ProgramText → Option ScriptFault
+lines_fault runs boxes p t =
+    or_else (told_at 14 (global_line t) (bad_global p.imports t.globals))
+    (or_else (told_at 15 (show_line t) (bad_show runs t.area t.shows)) (told_line 16 (misbound_line boxes p t.binds)))
 
 -- a fault, where there is one, else what was made
 abbrev pub unless_told : {A : Type 0} → Option ScriptFault → A → Result A ScriptFault
@@ -126,13 +168,14 @@ told_funcs t (Err f) = Err (told_fault t f)
 told_funcs t (Ok funcs) = Ok funcs
 
 -- what a program is given, where neither its entries nor its lines have a fault
-abbrev pub with_lines : (runs : Bool) → List Import → ProgramText → Result (List ℕ) ScriptFault → Result SetUp ScriptFault
-with_lines runs imports t (Err f) = Err f
-with_lines runs imports t (Ok funcs) = unless_told (lines_fault runs imports t) (record { funcs = funcs; globals = global_values imports t.globals })
+abbrev pub with_lines : (runs : Bool) → (boxes : List (List ℕ)) → Module → ProgramText → Result (List ℕ) ScriptFault → Result SetUp ScriptFault
+with_lines runs boxes p t (Err f) = Err f
+with_lines runs boxes p t (Ok funcs) = unless_told (lines_fault runs boxes p t) (record { funcs = funcs; globals = global_values p.imports t.globals })
 
--- A program over a module, set up; or the line and rule of the first fault: rule by rule, each over all lines of the program.
-abbrev pub set_up_rules : (runs : Bool) → Module → ProgramText → Result SetUp ScriptFault
-set_up_rules runs p t = with_lines runs p.imports t (told_funcs t (set_up p t.area (map named_entry t.entries)))
+-- A program over a module, set up beside mailboxes of these names; or the line and rule of the first fault: rule by rule, each over all
+-- lines of the program.
+abbrev pub set_up_rules : (runs : Bool) → (boxes : List (List ℕ)) → Module → ProgramText → Result SetUp ScriptFault
+set_up_rules runs boxes p t = with_lines runs boxes p t (told_funcs t (set_up p t.area (map named_entry t.entries)))
 
 -- ---- names
 

@@ -91,7 +91,8 @@ fn with_type(ty: ValType, types: Types) -> Types
     }
 }
 
-fn is_narrow(ty: ValType) -> bool
+/// Whether a value of this type has 32 bits.
+pub(crate) fn is_narrow(ty: ValType) -> bool
     ensures narrow { result ≡ same_type ty I32 }
     ensures wide { not result ≡ same_type ty I64 }
 {

@@ -6,12 +6,14 @@
 //!
 //! `set_up_program` answers what the program is given, or the line and the rule of its first fault. What is asked of its lines once the
 //! module is there (`specs/SetUpRules.antt`): the area, the five exports and the entries, as `host_setup` asks; each `global` line sets
-//! imported globals of its value's type; and, for `run`, no memory is shown that overlaps the area. `bindings` tells which device answers
+//! imported globals of its value's type; for `run`, no memory is shown that overlaps the area; and an import that is bound to a mailbox
+//! sends an i32 or receives one. `bindings` tells which device answers
 //! each import: that of the last `device` line with its joined name (`specs/Bindings.antt`). Nothing runs here.
 //!
 //! - `scripts`, `modules`: scripts and prepared modules in files, or their refusal.
 //! - `fault`, `names`, `entries`: why a program isn't set up, the names in its lines, and its entries.
-//! - `globals`, `binding`: imported globals and the lines that set them, imports and the devices of lines.
+//! - `globals`, `binding`, `mail`: imported globals and the lines that set them, imports and the devices of lines, imports that are bound
+//!   to mailboxes.
 //! - `setting`: `set_up_program`.
 #![tactic(auto)]
 
@@ -19,6 +21,7 @@ mod binding;
 mod entries;
 mod fault;
 mod globals;
+mod mail;
 mod modules;
 mod names;
 mod scripts;

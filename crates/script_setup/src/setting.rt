@@ -6,18 +6,19 @@ ghost use Rattle.wa_types.specs.View.{module_of};
 ghost use Rattle.host_setup.specs.SetUp.{set_up};
 ghost use Rattle.host_setup.specs.Views.{entry_of as named_entry_of};
 ghost use Rattle.script_model.specs.ScriptLines.{or_else};
-ghost use Rattle.script_reader.specs.Views.{program_of, show_of};
-ghost use Rattle.script_setup.specs.SetUpRules.{bad_show, entry_line, global_line, global_values, named_entry, overlaps, set_up_rules, show_line, told_funcs, told_at, with_lines};
+ghost use Rattle.script_reader.specs.Views.{mailbox_of, program_of, show_of};
+ghost use Rattle.script_setup.specs.SetUpRules.{bad_show, box_names, entry_line, global_line, global_values, lines_fault, misbound_line, named_entry, overlaps, set_up_rules, show_line, told_at, told_funcs, told_line, unless_told};
 ghost use Rattle.script_setup.specs.Views.{Reads, broken_of, rule_fault, set_up_of};
 
 use crate::entries::copied_entries;
 use crate::fault::RuleFault;
 use crate::globals::{bad_global, global_values};
+use crate::mail::misbound_line;
 use host_setup::{Entry, SetupFault, set_up};
-use script_reader::{ProgramText, ShowText};
-use std::alloc::Global;
+use script_reader::{MailboxText, ProgramText, ShowText};
+use std::alloc::{AllocError, Global};
 use wa_model::Area;
-use wa_types::{Import, Value};
+use wa_types::{Import, Module, Value};
 use wasm_validate::Valid;
 
 /// What a program is given: its entries, the functions that they call, and one value for each imported global.
@@ -28,22 +29,26 @@ pub struct SetUp {
     pub globals: Vec<Value>,
 }
 
-/// What a program of a script is given over its module; or the line and the rule of its first fault, rules from 9 to 15 one after
-/// another. `runs` asks the last one, too, which `run` alone has. Takes time near linear in the module's imports and exports and in
-/// the lines.
+/// What a program of a script with these mailboxes is given over its module; or the line and the rule of its first fault, rules from
+/// 9 to 16 one after another. `runs` asks rule 15, too, which `run` alone has. Takes time near linear in the module's imports and
+/// exports, the mailboxes and the lines.
 pub fn set_up_program(
     alloc: Global,
     valid: &Valid,
+    mailboxes: &[MailboxText],
     text: &ProgramText,
     runs: bool,
 ) -> Result<SetUp, RuleFault>
     requires { length text.now.entries.items < 2 ^ 32 }
-    ensures made { Reads set_up_of result (set_up_rules runs (module_of valid.now) (program_of text.now)) }
+    ensures made { Reads set_up_of result (set_up_rules runs (box_names (map mailbox_of mailboxes.now)) (module_of valid.now) (program_of text.now)) }
     ensures entries { IfOk result (λ made. map named_entry_of made.entries.items ≡ map named_entry (program_of text.now).entries) }
 {
     let entries = copied_entries(alloc, &text.entries)?;
     match entry_funcs(alloc, valid, text, &entries) {
-        Ok(funcs) => with_lines(alloc, &valid.module().imports, text, runs, entries, funcs),
+        Ok(funcs) => {
+            let broken = lines_fault(alloc, valid.module(), mailboxes, text, runs)?;
+            unless_broken(alloc, &valid.module().imports, text, broken, entries, funcs)
+        }
         Err(fault) => Err(fault),
     }
 }
@@ -103,20 +108,19 @@ fn entry_line(text: &ProgramText, entry: u32) -> u32
     }
 }
 
-// A program whose entries call these functions.
-fn with_lines(
+// A program whose entries call these functions, unless one of its lines breaks a rule.
+fn unless_broken(
     alloc: Global,
     imports: &[Import],
     text: &ProgramText,
-    runs: bool,
+    broken: Option<Broken>,
     entries: Vec<Entry>,
     funcs: Vec<u32>,
 ) -> Result<SetUp, RuleFault>
-    ensures made { Reads set_up_of result (with_lines runs imports.now (program_of text.now) (Ok funcs.items)) }
+    ensures made { Reads set_up_of result (unless_told (option_map broken_of broken) (record { funcs = funcs.items; globals = global_values imports.now (program_of text.now).globals })) }
     ensures entries { IfOk result (λ made. made.entries ≡ entries) }
 {
-    let place = bad_global(alloc, imports, &text.globals)?;
-    match lines_fault(runs, text, place) {
+    match broken {
         Some(broken) => Err(RuleFault::Rule {
             line: broken.line,
             rule: broken.rule,
@@ -150,29 +154,56 @@ pub(crate) struct Broken {
     pub rule: u8,
 }
 
-// The first line that breaks a rule of globals, the first of which that does stands here, or of shown memory.
-fn lines_fault(runs: bool, text: &ProgramText, place: Option<usize>) -> Option<Broken>
-    ensures { or_else (told_at 14 (global_line (program_of text.now)) place) (told_at 15 (show_line (program_of text.now))
-        (bad_show runs (program_of text.now).area (program_of text.now).shows)) ≡ option_map broken_of result }
+// The first line that breaks a rule of globals, of shown memory or of mailboxes.
+fn lines_fault(
+    alloc: Global,
+    module: &Module,
+    mailboxes: &[MailboxText],
+    text: &ProgramText,
+    runs: bool,
+) -> Result<Option<Broken>, AllocError>
+    ensures { IfOk result (λ broken. lines_fault runs (box_names (map mailbox_of mailboxes.now)) (module_of «module».now) (program_of text.now) ≡ option_map broken_of broken) }
 {
-    match place {
-        Some(place) => Some(Broken {
+    match bad_global(alloc, &module.imports, &text.globals)? {
+        Some(place) => Ok(Some(Broken {
             line: global_line(text, place),
             rule: 14,
-        }),
-        None => show_fault(text, bad_show(runs, text.area, &text.shows)),
+        })),
+        None => later_fault(alloc, module, mailboxes, text, runs),
     }
 }
 
-fn show_fault(text: &ProgramText, place: Option<usize>) -> Option<Broken>
-    ensures { told_at 15 (show_line (program_of text.now)) place ≡ option_map broken_of result }
+// The first line that breaks a rule of shown memory or of mailboxes.
+fn later_fault(
+    alloc: Global,
+    module: &Module,
+    mailboxes: &[MailboxText],
+    text: &ProgramText,
+    runs: bool,
+) -> Result<Option<Broken>, AllocError>
+    ensures { IfOk result (λ broken. or_else (told_at 15 (show_line (program_of text.now)) (bad_show runs (program_of text.now).area (program_of text.now).shows))
+        (told_line 16 (misbound_line (box_names (map mailbox_of mailboxes.now)) (module_of «module».now) (program_of text.now).binds)) ≡ option_map broken_of broken) }
 {
-    match place {
-        Some(place) => Some(Broken {
+    match bad_show(runs, text.area, &text.shows) {
+        Some(place) => Ok(Some(Broken {
             line: show_line(text, place),
             rule: 15,
-        }),
-        None => None,
+        })),
+        None => mailbox_fault(alloc, module, mailboxes, text),
+    }
+}
+
+fn mailbox_fault(
+    alloc: Global,
+    module: &Module,
+    mailboxes: &[MailboxText],
+    text: &ProgramText,
+) -> Result<Option<Broken>, AllocError>
+    ensures { IfOk result (λ broken. told_line 16 (misbound_line (box_names (map mailbox_of mailboxes.now)) (module_of «module».now) (program_of text.now).binds) ≡ option_map broken_of broken) }
+{
+    match misbound_line(alloc, module, mailboxes, &text.binds)? {
+        Some(line) => Ok(Some(Broken { line, rule: 16 })),
+        None => Ok(None),
     }
 }
 

@@ -1,26 +1,29 @@
 -- The events of a world are those of another, whose programs make the same calls and whose actors print the same.
-use Rattle.std.proofs.Common.{arith, ◌≡◌, ◌+◌, ℕ, zero, suc, List, [], ◌∷◌, ◌++◌, length, Option, Some, None, refl, sym, ap, ◌∙◌, subst}
+use Rattle.std.proofs.Common.{arith, ◌≡◌, ◌≤◌, ◌+◌, ℕ, zero, suc, List, [], ◌∷◌, ◌++◌, length, Some, refl, sym, ap, ◌∙◌, subst}
 use Rattle.std.specs.Prelude.{map, slice_get, slice_set}
 use Rattle.std.proofs.lemmas.List.Elements.{All-cons, All-head, All-tail}
 use Rattle.std.proofs.lemmas.Option.{same_Some}
 use Rattle.wa_model.specs.declared.answers.Detach.{Detach}
 use Rattle.wa_model.specs.Blocking.{Note}
-use Rattle.wa_model.specs.Outside.{AnswerLine, Call, Event, Line}
+use Rattle.wa_model.specs.Outside.{AnswerLine, Event, Line}
 use Rattle.wa_model.specs.Plan.{Outcome}
-use Rattle.world_model.specs.World.{Actor, CallsMeet, Device, Events, IsNext, IsOver, Look, NoteMeets, Plays, Program, an_event, behind_turn, call_in, detached, events_with_looks, line_at, no_event}
+use Rattle.world_model.specs.World.{Actor, CallsMeet, Device, Events, IsNext, IsOver, Look, Plays, Program, an_event, behind_turn, detached, events_with_looks, line_at, no_event}
 use Rattle.world_model.specs.World.{put_off, turn_lines, turn_of}
-use Rattle.world_laws.proofs.Meeting.{SameCalls, meets_same}
+use Rattle.world_laws.specs.Originals.{new_calls}
+use Rattle.world_laws.proofs.Meeting.{SameCalls, calls_trimmed}
 use Rattle.world_laws.proofs.Nexts.{next_beside}
-use Rattle.world_laws.proofs.Shows.{Alike, alike_behind, alike_events, alike_length, alike_put_off, alike_turn}
+use Rattle.world_laws.proofs.Shows.{Alike, alike_behind, alike_events, alike_length, alike_put_off, alike_turn, turn_calls}
 
--- A program w and its actor a, and a program v in its place with the actor b.
+-- A program w and its actor a, and a program v in its place with the actor b, whose outcomes are enough for the calls.
 pub record Row (w v : Program) (a b : Actor) : Type 0 where
   pub calls : SameCalls w v
   pub looks : w.looks ≡ v.looks
   pub due : b.due ≡ a.due
   pub answers : b.answers ≡ a.answers
-  pub outcomes : b.outcomes ≡ a.outcomes
   pub notes : Alike w.looks b.notes a.notes
+  pub rest : List Outcome
+  pub outcomes : a.outcomes ≡ b.outcomes ++ rest
+  pub enough : new_calls a.notes ≤ length b.outcomes
 
 abbrev pub Rows : List Program → List Program → List Actor → List Actor → Type 0
 Rows [] [] [] [] = Unit {0}
@@ -33,28 +36,11 @@ rows_on (w ∷ ws) ws' (v ∷ vs) vs' (a ∷ acts) acts' (b ∷ bs) bs' h k = (h
 rows_on _ ws' _ vs' _ acts' _ bs' h k = absurd h
 
 -- the other way
-alike_back : (looks : List Look) (xs ys : List Note) → Alike looks xs ys → Alike looks ys xs
+pub alike_back : (looks : List Look) (xs ys : List Note) → Alike looks xs ys → Alike looks ys xs
 alike_back looks [] [] h = tt
 alike_back looks [] (y ∷ ys) h = absurd h
 alike_back looks (x ∷ xs) [] h = absurd h
 alike_back looks (x ∷ xs) (y ∷ ys) h = (record { event = sym (h.0).event; shows = sym (h.0).shows }, alike_back looks xs ys h.1)
-
-pub rows_turned : (ws vs : List Program) (acts bs : List Actor) → Rows ws vs acts bs → Rows vs ws bs acts
-rows_turned [] [] [] [] h = tt
-rows_turned (w ∷ ws) (v ∷ vs) (a ∷ acts) (b ∷ bs) h =
-    let r = h.0 in
-    let calls = r.calls in (
-      record {
-        calls = record { imports = sym calls.imports; binds = sym calls.binds };
-        looks = sym r.looks;
-        due = sym r.due;
-        answers = sym r.answers;
-        outcomes = sym r.outcomes;
-        notes = subst (λ (ls : List Look). Alike ls a.notes b.notes) r.looks (alike_back w.looks b.notes a.notes r.notes);
-      },
-      rows_turned ws vs acts bs h.1,
-    )
-rows_turned _ _ _ _ h = absurd h
 
 -- the row of a number
 abbrev Found : List Program → List Actor → ℕ → Actor → Program → Type 0
@@ -93,25 +79,6 @@ next_row ws vs acts bs i a b rows there due len n =
     next_beside acts bs i a b there due (omega (arith, len, n.unfinished))
     (λ j c e has. let r = row_back ws vs acts bs rows j c e in (r.0, r.1, sym r.2, omega (arith, r.3, has))) n
 
--- what the calls of a turn meet they meet in the other program too
-calls_beside : (looks : List Look) (w v : Program) → SameCalls w v → (xs ys : List Note) → Alike looks xs ys
-    → (os : List Outcome) (lines : List AnswerLine) (ds : List Device) (os' : List Outcome) (lines' : List AnswerLine) (ds' : List Device)
-    → CallsMeet w ys os lines ds os' lines' ds' → CallsMeet v xs os lines ds os' lines' ds'
-calls_beside looks w v same [] [] al os lines ds os' lines' ds' h = h
-calls_beside looks w v same [] (y ∷ ys) al os lines ds os' lines' ds' h = absurd al
-calls_beside looks w v same (x ∷ xs) [] al os lines ds os' lines' ds' h = absurd al
-calls_beside looks w v same (x ∷ xs) (y ∷ ys) al os lines ds os' lines' ds' h =
-    subst (λ (c : Option Call). NoteMeets v c os lines ds Rest) (ap call_in (sym (al.0).event))
-    (by_call (λ o l d k. calls_beside looks w v same xs ys al.1 o l d os' lines' ds' k) (call_in y.event) h)
-  where
-    Rest : List Outcome → List AnswerLine → List Device → Type 0
-    Rest o l d = CallsMeet v xs o l d os' lines' ds'
-
-    by_call : ((o : List Outcome) (l : List AnswerLine) (d : List Device) → CallsMeet w ys o l d os' lines' ds' → CallsMeet v xs o l d os' lines' ds') → (c : Option Call)
-        → NoteMeets w c os lines ds (λ o l d. CallsMeet w ys o l d os' lines' ds') → NoteMeets v c os lines ds Rest
-    by_call on None k = on os lines ds k
-    by_call on (Some c) k = (k.0, k.1, k.2, k.3, k.4, meets_same w v same c.import c.args lines ds k.0 k.2 k.3 k.5, on k.1 k.2 k.3 k.6)
-
 -- an event of the one world is one of the other
 plays_beside : (ws vs : List Program) (acts bs : List Actor) (detaches : List Detach) (number : ℕ) (ds : List Device) (lines : List Line) (acts' : List Actor) (ds' : List Device)
     → Rows ws vs acts bs → Plays ws detaches number acts ds lines acts' ds' → (bs' : List Actor) × Plays vs detaches number bs ds lines bs' ds' × Rows ws vs acts' bs'
@@ -127,18 +94,22 @@ plays_beside ws vs acts bs detaches number ds lines acts' ds' rows h = by_row (r
         let r : Row h.w v h.a b = f.4 in
         let turn = alike_turn h.w.looks b.notes h.a.notes r.notes in
         let behind = alike_behind h.w.looks b.notes h.a.notes r.notes in
-        let calls : CallsMeet v (turn_of b.notes) b.outcomes b.answers (detached number detaches ds) h.outcomes h.answers ds' =
-        calls_beside h.w.looks h.w v r.calls (turn_of b.notes) (turn_of h.a.notes) turn b.outcomes b.answers (detached number detaches ds) h.outcomes h.answers ds'
-        (subst (λ (ls : List AnswerLine). CallsMeet h.w (turn_of h.a.notes) b.outcomes ls (detached number detaches ds) h.outcomes h.answers ds') (sym r.answers)
-        (subst (λ (xs : List Outcome). CallsMeet h.w (turn_of h.a.notes) xs h.a.answers (detached number detaches ds) h.outcomes h.answers ds') (sym r.outcomes) h.calls)) in
-        let b' : Actor = record { due = b.due + put_off (turn_of b.notes); notes = behind_turn b.notes; outcomes = h.outcomes; answers = h.answers } in
+        let split = turn_calls h.a.notes in
+        let calls : CallsMeet h.w (turn_of h.a.notes) (b.outcomes ++ r.rest) b.answers (detached number detaches ds) h.outcomes h.answers ds' =
+        subst (λ (ls : List AnswerLine). CallsMeet h.w (turn_of h.a.notes) (b.outcomes ++ r.rest) ls (detached number detaches ds) h.outcomes h.answers ds') (sym r.answers)
+        (subst (λ (xs : List Outcome). CallsMeet h.w (turn_of h.a.notes) xs h.a.answers (detached number detaches ds) h.outcomes h.answers ds') r.outcomes h.calls) in
+        let t = calls_trimmed h.w.looks h.w v r.calls (turn_of b.notes) (turn_of h.a.notes) turn b.outcomes r.rest b.answers (detached number detaches ds) h.outcomes h.answers ds' calls
+        (omega (arith, split, r.enough)) in
+        let b' : Actor = record { due = b.due + put_off (turn_of b.notes); notes = behind_turn b.notes; outcomes = t.0; answers = h.answers } in
         let row : Row h.w v a' b' = record {
           calls = r.calls;
           looks = r.looks;
           due = omega (arith, r.due, alike_put_off h.w.looks (turn_of b.notes) (turn_of h.a.notes) turn);
           answers = refl;
-          outcomes = refl;
           notes = behind;
+          rest = r.rest;
+          outcomes = t.2;
+          enough = omega (arith, split, r.enough, t.3);
         } in
         let made : lines ≡ turn_lines h.i v b =
         h.made
@@ -152,9 +123,9 @@ plays_beside ws vs acts bs detaches number ds lines acts' ds' rows h = by_row (r
             w = v;
             next = next_row ws vs acts bs h.i h.a b rows f.3 r.due (alike_length h.w.looks b.notes h.a.notes r.notes) h.next;
             program = f.2;
-            outcomes = h.outcomes;
+            outcomes = t.0;
             answers = h.answers;
-            calls = calls;
+            calls = t.1;
             made = made;
             after = refl;
           },

@@ -78,7 +78,7 @@ none_told {S} w = by_standing (standing_now w)
 
 -- ---- under the protocol
 
-held_go : (g : StrandsInWorld) (oss : List (List Outcome)) (ts : List Told) → 0 < length g.program.strands → length oss ≡ length g.program.strands → HeldStrands g oss ts
+pub held_go : (g : StrandsInWorld) (oss : List (List Outcome)) (ts : List Told) → 0 < length g.program.strands → length oss ≡ length g.program.strands → HeldStrands g oss ts
     → GoesByTurns None (all_due (length g.program.strands)) ts
 held_go g oss ts some wide e =
     subst (GoesByTurns None (all_due (length g.program.strands))) (sym e)

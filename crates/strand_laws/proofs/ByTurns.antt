@@ -161,7 +161,7 @@ module _ {S : Type 0} where
   length_shadow [] = refl
   length_shadow (t ∷ ts) = ap suc (length_shadow ts)
 
-  first_there : (ts : List (Thread S)) (r : Ready S) → first_ready 0 ts ≡ Some r → IsFirst ts r.strand r.due
+  pub first_there : (ts : List (Thread S)) (r : Ready S) → first_ready 0 ts ≡ Some r → IsFirst ts r.strand r.due
   first_there ts r e = subst (λ k. IsFirst ts k r.due) z (lt, l.stands, record { ready = l.stands.ready; least = least })
     where
       l : Least 0 (shadow ts) r

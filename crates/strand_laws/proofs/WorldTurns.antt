@@ -36,7 +36,7 @@ step_out : (b : ℕ) (x : StrandProgram) (qs : List StrandProgram) (i tick : ℕ
     → strand_line b (x ∷ qs) i tick e ≡ strand_line (suc b) qs (i - length x.strands) tick e
 step_out b x qs i tick e le = rw (le-ltb i (length x.strands) le) refl
 
-line_mine : (b : ℕ) (qs : List StrandProgram) (p : ℕ) (q : StrandProgram) → slice_get qs p ≡ Some q → (k tick : ℕ) (e : Event) → k < length q.strands
+pub line_mine : (b : ℕ) (qs : List StrandProgram) (p : ℕ) (q : StrandProgram) → slice_get qs p ≡ Some q → (k tick : ℕ) (e : Event) → k < length q.strands
     → strand_line b qs (before p qs + k) tick e ≡ record { tick = tick; program = b + p; strand = strand_in k e; event = e }
 line_mine b [] zero q is k tick e lt = none_is q is
 line_mine b [] (suc p) q is k tick e lt = none_is q is
@@ -107,7 +107,7 @@ over_at [] i a h e = none_is a e
 over_at (x ∷ xs) zero a h e = subst HasNone (the_same x a e) (All-head HasNone x xs h)
 over_at (x ∷ xs) (suc i) a h e = over_at xs i a (All-tail HasNone x xs h) e
 
-ready_lt : (v : Dues) (k : ℕ) → is_ready (slice_get v k) ≡ true → k < length v
+pub ready_lt : (v : Dues) (k : ℕ) → is_ready (slice_get v k) ≡ true → k < length v
 ready_lt [] k e = let no_way : ⊥ = cc in absurd no_way
 ready_lt (t ∷ v) zero e = omega arith
 ready_lt (t ∷ v) (suc k) e = let lt = ready_lt v k e in omega (arith, lt)

@@ -16,6 +16,7 @@ use Rattle.run_theory.specs.Quiet.{FreeOfNames}
 use Rattle.emitted_form.specs.EmittedAs.{EmittedAs}
 use Rattle.emitted_form.specs.PolicyLaws.{CanBeEmitted}
 use Rattle.strand_laws.specs.Strands.{BlockingStrands, SameOff, StrandProgram, StrandsBehave, StrandsCompared, StrandsNumbered, areas_of, events_told, with_source}
+use Rattle.strand_laws.specs.StrandsMet.{met_in}
 use Rattle.strand_laws.specs.StrandWorld.{BlockingStrandWorld, HeldStrands, IsFinished, ProtocolStrandWorld, Staged, StrandLine, StrandOriginal, StrandsInWorld, StrungStrands}
 use Rattle.strand_laws.specs.Woven.{Told, notes_told}
 
@@ -93,12 +94,12 @@ abbrev pub outcomes_in : Staged → List (List Outcome)
 outcomes_in x = map (λ (a : Actor). a.outcomes) x.actors
 
 -- So the lines and devices of a run of the protocol world of strands over rewritten modules are those of a run of the blocking world
--- of strands over their originals, for any number of programs, where those run orderly with the outcomes of that run.
+-- of strands over their originals, for any number of programs, where those run orderly with the outcomes that were met.
 abbrev pub StrandWorldsOfOriginals : Type 0
 StrandWorldsOfOriginals =
     (originals : List StrandOriginal) (programs : List StrandsInWorld) (detaches : List Detach) (ds ds' : List Device) (lines : List StrandLine)
     → AllZip StrandsStandIn originals programs → All StrandsMayRun originals → (world : ProtocolStrandWorld programs detaches ds lines ds')
-    → AllZip (λ (o : StrandOriginal) (x : Staged). StrandsOrderly o (outcomes_in x)) originals world.staged → BlockingStrandWorld originals detaches ds lines ds'
+    → AllZip (λ (o : StrandOriginal) (x : Staged). StrandsOrderly o (met_in x)) originals world.staged → BlockingStrandWorld originals detaches ds lines ds'
 
 -- And the other way, where each original's strands are bounded so: a run of the blocking world is one of the protocol world.
 abbrev pub BoundedWorldsAreHeld : Type 0

@@ -87,12 +87,14 @@ abbrev pub looks_if : Bool → List Look → List Look
 looks_if true looks = looks
 looks_if false looks = []
 
+-- a strand as a program of a world, behind whose end this is shown
+abbrev pub strand_program : StrandsInWorld → List Look → (number : ℕ) → Strand → Program
+strand_program g looks i s = record { source = g.program.source; plan = plan_of g.program s; steps = g.steps; answers = answers_of g i; binds = g.binds; looks = looks; origin = at_start }
+
 -- each strand as a program of a world, from this number on; the looks stand behind the end of the strand that tells the last note
 abbrev pub strand_programs : StrandsInWorld → (last number : ℕ) → List Strand → List Program
 strand_programs g last i [] = []
-strand_programs g last i (s ∷ ss) =
-    record { source = g.program.source; plan = plan_of g.program s; steps = g.steps; answers = answers_of g i; binds = g.binds; looks = looks_if (nat_eq last i) g.looks; origin = at_start }
-    ∷ strand_programs g last (suc i) ss
+strand_programs g last i (s ∷ ss) = strand_program g (looks_if (nat_eq last i) g.looks) i s ∷ strand_programs g last (suc i) ss
 
 -- each strand as an actor at its start, from this number on
 abbrev pub strand_actors : StrandsInWorld → List Told → (number : ℕ) → List (List Outcome) → List Actor

@@ -19,21 +19,35 @@
 //!
 //! `specs/StrandOriginals.antt` has that a world of strands over rewritten modules has the lines of one over their originals:
 //! `proofs/EndTogether.antt` that strands in step end together, `proofs/StrandStories.antt` what one program tells, and
-//! `proofs/ActorRows.antt` that worlds whose actors print the same have the same events. `proofs/ThreeToTheEnd.antt` has three strands over
-//! whatever is emitted of a small module, and the lines of their world.
+//! `proofs/ActorRows.antt` that worlds whose actors print the same have the same events. `specs/StrandsMet.antt` has that strands tell the same with
+//! the outcomes alone that their calls meet. `proofs/ThreeToTheEnd.antt` has three strands over whatever is emitted of a small module, and
+//! the lines of their world.
+//!
+//! `specs/ToldStrands.antt` has worlds of strands as they are told, turn by turn, when no strand's story is known beforehand: `proofs/ToldStrands.antt`
+//! has that a turn that is told is an event of the world, `proofs/ToldWorlds.antt` that all are, and `proofs/ToldGoesOn.antt` that what was told goes on
+//! to an end, by `proofs/NextTurn.antt`, one turn whose calls meet answer lines and devices that fail.
+//! `specs/StrandNotes.antt` has the same note by note.
 #![tactic(auto)]
 
 mod emitted_strands;
 mod one_strand;
 mod original_worlds;
+mod told_notes;
+mod told_worlds;
 mod world_strands;
 
 pub use emitted_strands::{strand_pauses_at_numbers, strands_of_emitted, three_strands_take_turns};
 pub use one_strand::{one_strand_is_expected, one_strand_runs_as_its_plan};
 pub use original_worlds::{
     bounded_strands_end, bounded_worlds_are_held, compared_strands_are_orderly,
-    emitted_strands_stand_in, emitted_world_has_its_lines, strand_stories_are_of_originals,
-    strand_worlds_are_of_originals, three_strands_end,
+    emitted_strands_stand_in, emitted_world_has_its_lines, strand_stories_are_of_met,
+    strand_stories_are_of_originals, strand_worlds_are_of_originals, three_strands_end,
+};
+pub use told_notes::{
+    begun_strands_begin, nothing_is_told, told_strands_begin, turn_begins, turn_ends, turn_goes_on,
+};
+pub use told_worlds::{
+    all_told_strands_are_a_world, strand_worlds_end, told_strands_are_a_world, told_strands_go_on,
 };
 pub use world_strands::{
     held_programs_tell_one_run, narrow_area_ends_the_program, strands_go_by_turns,

@@ -1,6 +1,7 @@
 //! Worlds of strands beside those of their originals. Each is the contract of a function that does nothing.
 
 ghost use Rattle.strand_laws.specs.StrandOriginals.{BoundedStrandsEnd, BoundedWorldsAreHeld, ComparedAreOrderly, EmittedAreRewritten, StrandStoriesOfOriginals, StrandWorldsOfOriginals};
+ghost use Rattle.strand_laws.specs.StrandsMet.{StrandStoriesOfMet};
 ghost use Rattle.strand_laws.specs.WorldExample.{EmittedTellsItsLines, ThreeTellAll};
 
 /// What is emitted has its original's imports, and its strands behave like the original's: it may stand in for it in a world of strands.
@@ -19,8 +20,13 @@ pub fn strand_stories_are_of_originals()
     ensures { StrandStoriesOfOriginals }
 {}
 
+/// What a program's strands tell in the protocol world they tell with the outcomes that their calls meet, whatever stands behind these.
+pub fn strand_stories_are_of_met()
+    ensures { StrandStoriesOfMet }
+{}
+
 /// A run of the protocol world of strands over rewritten modules has the lines and devices of a run of the blocking world of strands over
-/// their originals.
+/// their originals, where those run orderly with the outcomes that were met.
 pub fn strand_worlds_are_of_originals()
     ensures { StrandWorldsOfOriginals }
 {}

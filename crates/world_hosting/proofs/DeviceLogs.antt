@@ -14,8 +14,8 @@ use Rattle.event_order.specs.Left.{Counted, left_before, without, without_if}
 use Rattle.host_laws.specs.Supplies.{Takes, bound_to}
 use Rattle.many_host.specs.Calls.{IsShown, TakesCall, devices_of, faults_of, left_at}
 use Rattle.many_host.specs.Telling.{supply}
-use Rattle.world_hosting.specs.Counts.{IsBegunBy, Took, turns_at}
-use Rattle.world_hosting.specs.DeviceLogs.{DevicesAreLogged, Logged, answered_calls, device_log, how_many, logged_by, logged_to, taken_by, with_logs}
+use Rattle.world_hosting.specs.Counts.{IsBegunBy, TookBy, closes}
+use Rattle.world_hosting.specs.DeviceLogs.{DevicesAreLogged, Logged, answered_as, device_log, how_many, logged_as, logged_to, taken_by, with_logs}
 use Rattle.world_hosting.specs.Worlds.{turn_count, world_programs}
 
 -- ---- names and numbers
@@ -313,11 +313,11 @@ log_more detaches (y ∷ xs) x m place =
     ap (λ (l : List Asked). own ++ l) (log_more detaches xs x m place)
     ∙ sym (append_assoc own (device_log detaches xs m place) (if same_name m x.device && nat_eq (taken_by x.event detaches m) place then x.asked ∷ [] else []))
 
-logged_none : (p : Option Program) (n : ℕ) (os : List Outcome) → logged_by p n None os ≡ []
-logged_none None n os = refl
-logged_none (Some w) n os = refl
+logged_none : (asks : Program → (import : ℕ) → Option (List ℕ)) (p : Option Program) (n : ℕ) (os : List Outcome) → logged_as asks p n None os ≡ []
+logged_none asks None n os = refl
+logged_none asks (Some w) n os = refl
 
-no_call_shown : (e : Event) → IsShown e → call_in e ≡ None
+pub no_call_shown : (e : Event) → IsShown e → call_in e ≡ None
 no_call_shown (shown at bytes) h = refl
 no_call_shown (called c) h = absurd h
 no_call_shown (answered v) h = absurd h
@@ -326,18 +326,18 @@ no_call_shown (parked used) h = absurd h
 no_call_shown (returned i v) h = absurd h
 no_call_shown (ended how) h = absurd h
 
-no_turn_shown : (e : Event) → IsShown e → turns_at e ≡ 0
-no_turn_shown (shown at bytes) h = refl
-no_turn_shown (called c) h = absurd h
-no_turn_shown (answered v) h = absurd h
-no_turn_shown (paused t u) h = absurd h
-no_turn_shown (parked used) h = absurd h
-no_turn_shown (returned i v) h = absurd h
-no_turn_shown (ended how) h = absurd h
+pub goes_shown : (e : Event) → IsShown e → ends_turn e ≡ false
+goes_shown (shown at bytes) h = refl
+goes_shown (called c) h = absurd h
+goes_shown (answered v) h = absurd h
+goes_shown (paused t u) h = absurd h
+goes_shown (parked used) h = absurd h
+goes_shown (returned i v) h = absurd h
+goes_shown (ended how) h = absurd h
 
 module _ (programs : List Program) (detaches : List Detach) (old : List Device) where
   -- once the event of this number has begun, and these calls were answered
-  abbrev At : (n : ℕ) → List Logged → List Device
+  abbrev pub At : (n : ℕ) → List Logged → List Device
   At n cs = with_logs (taken_by n detaches) (device_log detaches cs) [] old
 
   next_at : (n : ℕ) (cs : List Logged) → detached (suc n) detaches (At n cs) ≡ At (suc n) cs
@@ -375,17 +375,17 @@ module _ (programs : List Program) (detaches : List Detach) (old : List Device) 
     by_bound None m = none_asked None refl m.1
     by_bound (Some name) m = there name (list_any (is_named name) ds) m.0
 
-  taken_line : (l : Line) (os : List Outcome) (left mid : List Counted) (n : ℕ) (cs : List Logged) → TakesCall programs l os left mid → devices_of left ≡ At n cs
-      → devices_of mid ≡ At n (cs ++ logged_by (slice_get programs l.program) n (call_in l.event) os)
+  pub taken_line : (l : Line) (os : List Outcome) (left mid : List Counted) (n : ℕ) (cs : List Logged) → TakesCall programs l os left mid → devices_of left ≡ At n cs
+      → devices_of mid ≡ At n (cs ++ logged_as bound_to (slice_get programs l.program) n (call_in l.event) os)
   taken_line l os left mid n cs t e =
-      subst (λ (p : Option Program). devices_of mid ≡ At n (cs ++ logged_by p n (call_in l.event) os)) (sym t.program) (by (call_in l.event) t.takes)
+      subst (λ (p : Option Program). devices_of mid ≡ At n (cs ++ logged_as bound_to p n (call_in l.event) os)) (sym t.program) (by (call_in l.event) t.takes)
     where
       by : (c : Option Call) → Takes t.w c (supply t.answers (devices_of left) (faults_of left)) os (supply t.left (devices_of mid) (faults_of mid))
-          → devices_of mid ≡ At n (cs ++ logged_by (Some t.w) n c os)
+          → devices_of mid ≡ At n (cs ++ logged_as bound_to (Some t.w) n c os)
       by None h = ap (λ u. u.devices) h.1 ∙ e ∙ ap (At n) (sym (append-nil cs))
       by (Some c) h =
           by_bound t.w c n cs h.0 (devices_of left) (devices_of mid) t.answers t.left e (bound_to t.w c.import) h.2.meets
-          ∙ ap (λ (us : List Outcome). At n (cs ++ logged_by (Some t.w) n (Some c) us)) (sym h.1)
+          ∙ ap (λ (us : List Outcome). At n (cs ++ logged_as bound_to (Some t.w) n (Some c) us)) (sym h.1)
 
   at_kept : (begun now : ℕ) (ms : List Counted) (cs : List Logged) → now ≡ begun → devices_of ms ≡ At begun cs → devices_of (left_at begun now detaches ms) ≡ At now cs
   at_kept begun now ms cs is e =
@@ -400,46 +400,50 @@ module _ (programs : List Program) (detaches : List Detach) (old : List Device) 
       ∙ next_at begun cs
       ∙ ap (λ (n : ℕ). At n cs) (sym is)
 
-  abbrev Stands : (begun over : ℕ) → Type 0
+  abbrev pub Stands : (begun over : ℕ) → Type 0
   Stands begun over = (begun ≡ over) ⊎ (begun ≡ suc over)
 
   stands_on : (e : Event) (b : Bool) (now over : ℕ) → now ≡ suc over → Stands now (over + (if b then 1 else 0))
   stands_on e true now over is = inl (omega (arith, is))
   stands_on e false now over is = inr (omega (arith, is))
 
-  logs_on : (lines : List Line) (met : List (List Outcome)) (begun over : ℕ) (ms : List Counted) (cs : List Logged) (last : ℕ) (new : List Counted) → Stands begun over
-      → devices_of ms ≡ At begun cs → Took programs detaches begun over lines met ms last new → devices_of new ≡ At last (cs ++ answered_calls programs over lines met)
-  logs_on [] [] begun over ms cs last new s e t =
-      ap (λ (c : List Counted). devices_of c) t.1 ∙ e ∙ ap (λ (n : ℕ). At n cs) (sym t.0) ∙ ap (At last) (sym (append-nil cs))
-  logs_on [] (os ∷ met) begun over ms cs last new s e t = absurd t
-  logs_on (l ∷ lines) [] begun over ms cs last new s e t = absurd t
-  logs_on (l ∷ lines) (os ∷ met) begun over ms cs last new s e t =
-      by t.2 (λ stands line. logs_on lines met t.0 (over + turns_at l.event) t.1 (cs ++ logged_by (slice_get programs l.program) (suc over) (call_in l.event) os) last new stands line t.4)
-    where
-      here : t.0 ≡ suc over → devices_of (left_at begun t.0 detaches ms) ≡ At t.0 cs
-      here is = elim s [
-        | inl f ↦ at_next begun t.0 ms cs (omega (arith, is, f)) e
-        | inr f ↦ at_kept begun t.0 ms cs (omega (arith, is, f)) e
-      ]
+  -- whatever ends events, where a line's call adds to the logs what it takes
+  module _ (ends : Event → Bool) (plain : (e : Event) → IsShown e → ends e ≡ false) (asks : Program → (import : ℕ) → Option (List ℕ)) (takes : Line → List Outcome → (old new : List Counted) → Type 0)
+      (step : (l : Line) (os : List Outcome) (left mid : List Counted) (n : ℕ) (cs : List Logged) → takes l os left mid → devices_of left ≡ At n cs
+      → devices_of mid ≡ At n (cs ++ logged_as asks (slice_get programs l.program) n (call_in l.event) os)) where
+    pub logs_on : (lines : List Line) (met : List (List Outcome)) (begun over : ℕ) (ms : List Counted) (cs : List Logged) (last : ℕ) (new : List Counted) → Stands begun over
+        → devices_of ms ≡ At begun cs → TookBy ends takes detaches begun over lines met ms last new → devices_of new ≡ At last (cs ++ answered_as ends asks programs over lines met)
+    logs_on [] [] begun over ms cs last new s e t =
+        ap (λ (c : List Counted). devices_of c) t.1 ∙ e ∙ ap (λ (n : ℕ). At n cs) (sym t.0) ∙ ap (At last) (sym (append-nil cs))
+    logs_on [] (os ∷ met) begun over ms cs last new s e t = absurd t
+    logs_on (l ∷ lines) [] begun over ms cs last new s e t = absurd t
+    logs_on (l ∷ lines) (os ∷ met) begun over ms cs last new s e t =
+        by t.2 (λ stands line. logs_on lines met t.0 (over + closes ends l.event) t.1 (cs ++ logged_as asks (slice_get programs l.program) (suc over) (call_in l.event) os) last new stands line t.4)
+      where
+        here : t.0 ≡ suc over → devices_of (left_at begun t.0 detaches ms) ≡ At t.0 cs
+        here is = elim s [
+          | inl f ↦ at_next begun t.0 ms cs (omega (arith, is, f)) e
+          | inr f ↦ at_kept begun t.0 ms cs (omega (arith, is, f)) e
+        ]
 
-      by : IsBegunBy begun over l.event t.0
-          → (Stands t.0 (over + turns_at l.event) → devices_of t.1 ≡ At t.0 (cs ++ logged_by (slice_get programs l.program) (suc over) (call_in l.event) os)
-          → devices_of new ≡ At last ((cs ++ logged_by (slice_get programs l.program) (suc over) (call_in l.event) os) ++ answered_calls programs (over + turns_at l.event) lines met))
-          → devices_of new ≡ At last (cs ++ (logged_by (slice_get programs l.program) (suc over) (call_in l.event) os ++ answered_calls programs (over + turns_at l.event) lines met))
-      by (inl is) on =
-          on (stands_on l.event (ends_turn l.event) t.0 over is)
-          (taken_line l os (left_at begun t.0 detaches ms) t.1 t.0 cs t.3 (here is)
-          ∙ ap (λ (n : ℕ). At t.0 (cs ++ logged_by (slice_get programs l.program) n (call_in l.event) os)) is)
-          ∙ ap (At last) (append_assoc cs (logged_by (slice_get programs l.program) (suc over) (call_in l.event) os) (answered_calls programs (over + turns_at l.event) lines met))
-      by (inr is) on =
-          let none = no_call_shown l.event is.2 in
-          let quiet = no_turn_shown l.event is.2 in
-          let same : (n : ℕ) → logged_by (slice_get programs l.program) n (call_in l.event) os ≡ [] = λ n.
-          ap (λ (c : Option Call). logged_by (slice_get programs l.program) n c os) none ∙ logged_none (slice_get programs l.program) n os in
-          on (inl (omega (arith, is.0, quiet)))
-          (taken_line l os (left_at begun t.0 detaches ms) t.1 t.0 cs t.3 (at_kept begun t.0 ms cs (is.0 ∙ sym is.1) e)
-          ∙ ap (λ (x : List Logged). At t.0 (cs ++ x)) (same t.0 ∙ sym (same (suc over))))
-          ∙ ap (At last) (append_assoc cs (logged_by (slice_get programs l.program) (suc over) (call_in l.event) os) (answered_calls programs (over + turns_at l.event) lines met))
+        by : IsBegunBy begun over l.event t.0
+            → (Stands t.0 (over + closes ends l.event) → devices_of t.1 ≡ At t.0 (cs ++ logged_as asks (slice_get programs l.program) (suc over) (call_in l.event) os)
+            → devices_of new ≡ At last ((cs ++ logged_as asks (slice_get programs l.program) (suc over) (call_in l.event) os) ++ answered_as ends asks programs (over + closes ends l.event) lines met))
+            → devices_of new ≡ At last (cs ++ (logged_as asks (slice_get programs l.program) (suc over) (call_in l.event) os ++ answered_as ends asks programs (over + closes ends l.event) lines met))
+        by (inl is) on =
+            on (stands_on l.event (ends l.event) t.0 over is)
+            (step l os (left_at begun t.0 detaches ms) t.1 t.0 cs t.3 (here is)
+            ∙ ap (λ (n : ℕ). At t.0 (cs ++ logged_as asks (slice_get programs l.program) n (call_in l.event) os)) is)
+            ∙ ap (At last) (append_assoc cs (logged_as asks (slice_get programs l.program) (suc over) (call_in l.event) os) (answered_as ends asks programs (over + closes ends l.event) lines met))
+        by (inr is) on =
+            let none = no_call_shown l.event is.2 in
+            let quiet : closes ends l.event ≡ 0 = ap (λ (b : Bool). if b then 1 else 0) (plain l.event is.2) in
+            let same : (n : ℕ) → logged_as asks (slice_get programs l.program) n (call_in l.event) os ≡ [] = λ n.
+            ap (λ (c : Option Call). logged_as asks (slice_get programs l.program) n c os) none ∙ logged_none asks (slice_get programs l.program) n os in
+            on (inl (omega (arith, is.0, quiet)))
+            (step l os (left_at begun t.0 detaches ms) t.1 t.0 cs t.3 (at_kept begun t.0 ms cs (is.0 ∙ sym is.1) e)
+            ∙ ap (λ (x : List Logged). At t.0 (cs ++ x)) (same t.0 ∙ sym (same (suc over))))
+            ∙ ap (At last) (append_assoc cs (logged_as asks (slice_get programs l.program) (suc over) (call_in l.event) os) (answered_as ends asks programs (over + closes ends l.event) lines met))
 
 -- before any event each device is as it was
 none_taken : (detaches : List Detach) (name : List ℕ) → taken_by 0 detaches name ≡ 0
@@ -456,7 +460,7 @@ none_taken (x ∷ xs) name = by (same_name name x.device) (nat_le 1 x.before) re
       let none : ◌≡◌ {A = ℕ} (if nat_le 1 x.before && nat_le x.before 0 then 1 else 0) 0 = λ k. if e k && f k then 1 else 0 in
       omega (arith, none, on)
 
-first_logs : (detaches : List Detach) (before ds : List Device) → ds ≡ with_logs (taken_by 0 detaches) (device_log detaches []) before ds
+pub first_logs : (detaches : List Detach) (before ds : List Device) → ds ≡ with_logs (taken_by 0 detaches) (device_log detaches []) before ds
 first_logs detaches before [] = refl
 first_logs detaches before (d ∷ ds) =
     let none : nat_lt (how_many d.name before) (taken_by 0 detaches d.name) ≡ false = le-ltb (how_many d.name before) (taken_by 0 detaches d.name) (omega (arith, none_taken detaches d.name)) in
@@ -465,4 +469,5 @@ first_logs detaches before (d ∷ ds) =
 
 pub devices_logged : DevicesAreLogged
 devices_logged parts detaches old new text told =
-    logs_on (world_programs parts) detaches (devices_of old) told.lines told.met 0 0 old [] (turn_count told.lines) new (inl refl) (first_logs detaches [] (devices_of old)) told.took
+    logs_on (world_programs parts) detaches (devices_of old) ends_turn goes_shown bound_to (TakesCall (world_programs parts))
+    (taken_line (world_programs parts) detaches (devices_of old)) told.lines told.met 0 0 old [] (turn_count told.lines) new (inl refl) (first_logs detaches [] (devices_of old)) told.took

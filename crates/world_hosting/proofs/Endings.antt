@@ -1,14 +1,13 @@
 -- How programs over rewritten modules end.
 use Rattle.std.proofs.Common.{arith, ◌≡◌, ◌≤◌, ℕ, zero, suc, List, [], ◌∷◌, ◌++◌, length, take, Option, Some, Bool, false, All, refl, sym, ap, ◌∙◌, subst}
-use Rattle.std.specs.Prelude.{slice_get, ◌||◌}
+use Rattle.std.specs.Prelude.{slice_get}
 use Rattle.std.specs.List.{AllZip}
 use Rattle.wa_types.specs.Runtime.{global_space}
-use Rattle.wa_model.specs.declared.answers.Area.{Area}
 use Rattle.wa_model.specs.Outside.{Event, shown}
 use Rattle.wa_model.specs.Plan.{Outcome, OutcomeFits}
 use Rattle.wa_model.specs.Blocking.{Note}
 use Rattle.world_model.specs.World.{Actor, BlockingStory, Original, Program, StartsHeld, protocol_story}
-use Rattle.world_laws.specs.Originals.{Orderly, SameMoment, met, new_calls}
+use Rattle.world_laws.specs.Originals.{Orderly, met, new_calls}
 use Rattle.world_laws.proofs.Meeting.{AnswersFit, EachMet, Met, events_met}
 use Rattle.world_laws.proofs.Stories.{stories_of_originals}
 use Rattle.world_laws.proofs.Tails.{story_tailed}
@@ -18,15 +17,7 @@ use Rattle.world_hosting.specs.Worlds.{Part, world_program, world_programs}
 use Rattle.world_hosting.specs.Endings.{ToldEnds, ends_spent, ends_unwound, tells_any}
 use Rattle.world_hosting.specs.OriginalRuns.{IsRewritten, Source, StaysOff, original_for, originals_for}
 use Rattle.world_hosting.proofs.Originals.{may_run, orderly, stands_in}
-use Rattle.world_hosting.proofs.StoryEnds.{any_note, events_any, orderly_story, unwinds_story, unwound_story, whole_story}
-
-same_events : (test : Event → Bool) (globals : ℕ) (area : Area) (xs ys : List Note) → AllZip (SameMoment globals area) xs ys → any_note test ys ≡ any_note test xs
-same_events test globals area [] [] h = refl
-same_events test globals area [] (y ∷ ys) h = absurd h
-same_events test globals area (x ∷ xs) [] h = absurd h
-same_events test globals area (x ∷ xs) (y ∷ ys) h =
-    let e : SameMoment globals area x y = h.0 in
-    ap (λ (v : Event). test v || any_note test ys) (sym e.event) ∙ ap (λ (b : Bool). test x.event || b) (same_events test globals area xs ys h.1)
+use Rattle.world_hosting.proofs.StoryEnds.{any_note, events_any, orderly_story, same_events, unwinds_story, unwound_story, whole_story}
 
 -- what its original's story tells
 pub record HasStory (o : Original) (a : Actor) : Type 0 where

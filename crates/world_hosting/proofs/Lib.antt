@@ -25,3 +25,12 @@ pub mod PausedRuns
 pub mod ReducedStores
 pub mod SavedPrograms
 pub mod ServedLines
+pub mod MailEnds
+pub mod MailLines
+pub mod MailLogs
+pub mod MailOriginals
+pub mod MailStories
+pub mod NoneParked
+pub mod CountedNotes
+pub mod MailMeets
+pub mod MailCounting

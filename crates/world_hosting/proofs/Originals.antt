@@ -65,8 +65,8 @@ module _ (x : Source) (y : Part) (is : IsRewritten x y) where
   -- the plan fits the original
   fits : Fits m o.program.plan
   fits =
-      let given = given_by_rules true y.source y.text y.given is.set_up in
-      let kept = kept_by_rules y.source y.text y.given is.set_up in
+      let given = given_by_rules true is.boxes y.source y.text y.given is.set_up in
+      let kept = kept_by_rules is.boxes y.source y.text y.given is.set_up in
       let fine = set_up_fine y.source is.rewrites.parts.valid_rewritten y.text.area es y.given.funcs given.funcs in
       let all = entries_fit m y.source x.settings is.rewrites is.which is.tells es (none_missing y.source y.text.area es y.given.funcs given.funcs)
       (subst (λ (fs : List ℕ). All (EntryTyped y.source) (calls_of es fs)) fine.funcs_are fine.entries)
@@ -88,7 +88,7 @@ module _ (x : Source) (y : Part) (is : IsRewritten x y) where
     fits = fits;
     listed = refl;
     answers = is.ranges.answers;
-    looks = shows_off y.text.area y.text.shows (kept_by_rules y.source y.text y.given is.set_up).shows;
+    looks = shows_off y.text.area y.text.shows (kept_by_rules is.boxes y.source y.text y.given is.set_up).shows;
   }
 
   abbrev planned : Option (List Bool) → Plan
@@ -111,13 +111,13 @@ module _ (x : Source) (y : Part) (is : IsRewritten x y) where
 
 -- ---- all of them
 
-all_stand_in : (xs : List Source) (ys : List Part) → AllZip IsRewritten xs ys → AllZip StandsIn (originals_for xs ys) (world_programs ys)
+pub all_stand_in : (xs : List Source) (ys : List Part) → AllZip IsRewritten xs ys → AllZip StandsIn (originals_for xs ys) (world_programs ys)
 all_stand_in [] [] h = tt
 all_stand_in [] (y ∷ ys) h = absurd h
 all_stand_in (x ∷ xs) [] h = absurd h
 all_stand_in (x ∷ xs) (y ∷ ys) h = (stands_in x y h.0, all_stand_in xs ys h.1)
 
-all_may_run : (xs : List Source) (ys : List Part) → AllZip IsRewritten xs ys → All MayRun (originals_for xs ys)
+pub all_may_run : (xs : List Source) (ys : List Part) → AllZip IsRewritten xs ys → All MayRun (originals_for xs ys)
 all_may_run [] ys h = All-nil MayRun
 all_may_run (x ∷ xs) [] h = absurd h
 all_may_run (x ∷ xs) (y ∷ ys) h = All-cons MayRun (original_for x y) (originals_for xs ys) (may_run x y h.0) (all_may_run xs ys h.1)

@@ -1,5 +1,5 @@
 -- The lines of several programs, as they are being told and printed.
-use Rattle.std.proofs.Common.{◌≡◌, ◌<◌, inl, inr, ◌≤◌, ℕ, suc, List, [], ◌∷◌, ◌++◌, length, length-append, map, Option, Some, None, Result, Ok, Err, refl, sym, ap, ◌∙◌, subst, arith, append-nil, append_assoc, add_assoc, ◌+◌}
+use Rattle.std.proofs.Common.{◌≡◌, ◌<◌, inl, inr, ◌≤◌, ℕ, suc, Bool, List, [], ◌∷◌, ◌++◌, length, length-append, map, Option, Some, None, Result, Ok, Err, refl, sym, ap, ◌∙◌, subst, arith, append-nil, append_assoc, add_assoc, ◌+◌}
 use Rattle.std.specs.Prelude.{IsErr, MatchOption, OnErr, OnOk, if◌then◌else◌, nat_eq, slice_get}
 use Rattle.std.specs.List.{AllZip}
 use Rattle.std.specs.Option.{option_map}
@@ -12,12 +12,12 @@ use Rattle.vault_port.specs.Taken.{Appends, AppendsLess, AppendsPast}
 use Rattle.vault_port.specs.Told.{Becomes}
 use Rattle.wa_model.specs.declared.answers.Detach.{Detach}
 use Rattle.wa_model.specs.declared.events.Line.{Line as LineValue}
-use Rattle.wa_model.specs.Outside.{Line}
+use Rattle.wa_model.specs.Outside.{Event, Line}
 use Rattle.wa_model.specs.Plan.{Outcome}
 use Rattle.wa_model.specs.View.{line_of}
 use Rattle.script_model.specs.Transcript as T
 use Rattle.script_model.specs.Transcript.{event_line, event_lines, last_line, names_at}
-use Rattle.world_model.specs.World.{Actor, Device, Program, ProtocolWorldFrom, StartsHeld}
+use Rattle.world_model.specs.World.{Actor, Device, Program, ProtocolWorldFrom, StartsHeld, ends_turn}
 use Rattle.device_port.specs.declared.devices.Devices.{Devices}
 use Rattle.device_port.specs.Listed.{of_all}
 use Rattle.event_order.specs.Dues.{HaveEnded}
@@ -36,13 +36,13 @@ use Rattle.many_host.proofs.Numbers.{none_since}
 use Rattle.many_host.proofs.Worlds.{told_begins_met_from}
 use Rattle.transcript.specs.declared.events.Names.{Names}
 use Rattle.transcript.specs.Printing.{names_of}
-use Rattle.world_hosting.specs.Counts.{AreMet, IsBegunBy, Took, counted, met_by, turns_at}
+use Rattle.world_hosting.specs.Counts.{AreMet, IsBegunBy, Took, TookBy, closes, counted, ended_in, met_by}
 use Rattle.world_hosting.specs.Saved.{HasPrinted, HasTold, MetBy, SavesPartFrom}
 use Rattle.world_hosting.specs.Worlds.{AreBegunFrom, AreToldFrom, IsLeft, Part, PrintsPart, TellsPartFrom, TellsWorldFrom, part_names, turn_count}
 use Rattle.world_hosting.proofs.TurnCounts.{begun_next, turns_begun}
 use Rattle.transcript.proofs.LineTexts.{becomes_by, becomes_same, line_more, then_less, then_printed}
 
-part_of : (fault : PutFault) (least : ℕ) (text x y : List ℕ) → AppendsPast least text x y → PrintsPart fault least text x y
+pub part_of : (fault : PutFault) (least : ℕ) (text x y : List ℕ) → AppendsPast least text x y → PrintsPart fault least text x y
 part_of Fault least text x y p = p
 part_of Memory least text x y p = (p.0, p.1, p.3)
 
@@ -56,39 +56,39 @@ on_ok (Err e) f q = tt
 
 -- ---- what lines took
 
-took_long : (programs : List Program) (detaches : List Detach) (begun ended : ℕ) (lines : List Line) (met : List (List Outcome)) (old : List Counted) (last : ℕ) (new : List Counted)
-    → Took programs detaches begun ended lines met old last new → length met ≡ length lines
-took_long programs detaches begun ended [] [] old last new t = refl
-took_long programs detaches begun ended (l ∷ lines) (os ∷ met) old last new t =
-    ap suc (took_long programs detaches t.0 (ended + turns_at l.event) lines met t.1 last new t.4)
-took_long programs detaches begun ended [] (os ∷ met) old last new t = absurd t
-took_long programs detaches begun ended (l ∷ lines) [] old last new t = absurd t
+module _ (ends : Event → Bool) (takes : Line → List Outcome → (old new : List Counted) → Type 0) (detaches : List Detach) where
+  pub took_long : (begun ended : ℕ) (lines : List Line) (met : List (List Outcome)) (old : List Counted) (last : ℕ) (new : List Counted)
+      → TookBy ends takes detaches begun ended lines met old last new → length met ≡ length lines
+  took_long begun ended [] [] old last new t = refl
+  took_long begun ended (l ∷ lines) (os ∷ met) old last new t = ap suc (took_long t.0 (ended + closes ends l.event) lines met t.1 last new t.4)
+  took_long begun ended [] (os ∷ met) old last new t = absurd t
+  took_long begun ended (l ∷ lines) [] old last new t = absurd t
 
-took_on : (programs : List Program) (detaches : List Detach) (begun ended last now : ℕ) (lines : List Line) (met : List (List Outcome)) (l : Line) (os : List Outcome) (old mid new : List Counted)
-    → Took programs detaches begun ended lines met old last mid → IsBegunBy last (ended + turn_count lines) l.event now → TakesCall programs l os (left_at last now detaches mid) new
-    → Took programs detaches begun ended (lines ++ l ∷ []) (met ++ os ∷ []) old now new
-took_on programs detaches begun ended last now [] [] l os old mid new t is c =
-    let none : ended + 0 ≡ ended = omega arith in (
-      now,
-      new,
-      subst (λ (b : ℕ). IsBegunBy b ended l.event now) t.0 (subst (λ (n : ℕ). IsBegunBy last n l.event now) none is),
-      subst (λ (cs : List Counted). TakesCall programs l os cs new) (λ k. left_at (t.0 k) now detaches (t.1 k)) c,
-      (refl, refl),
-    )
-took_on programs detaches begun ended last now (x ∷ lines) (ms ∷ met) l os old mid new t is c =
-    let all : ended + (turns_at x.event + turn_count lines) ≡ (ended + turns_at x.event) + turn_count lines = sym (add_assoc ended (turns_at x.event) (turn_count lines)) in (
-      t.0,
-      t.1,
-      t.2,
-      t.3,
-      took_on programs detaches t.0 (ended + turns_at x.event) last now lines met l os t.1 mid new t.4 (subst (λ (n : ℕ). IsBegunBy last n l.event now) all is) c,
-    )
-took_on programs detaches begun ended last now [] (ms ∷ met) l os old mid new t is c = absurd t
-took_on programs detaches begun ended last now (x ∷ lines) [] l os old mid new t is c = absurd t
+  pub took_on : (begun ended last now : ℕ) (lines : List Line) (met : List (List Outcome)) (l : Line) (os : List Outcome) (old mid new : List Counted)
+      → TookBy ends takes detaches begun ended lines met old last mid → IsBegunBy last (ended + ended_in ends lines) l.event now → takes l os (left_at last now detaches mid) new
+      → TookBy ends takes detaches begun ended (lines ++ l ∷ []) (met ++ os ∷ []) old now new
+  took_on begun ended last now [] [] l os old mid new t is c =
+      let none : ended + 0 ≡ ended = omega arith in (
+        now,
+        new,
+        subst (λ (b : ℕ). IsBegunBy b ended l.event now) t.0 (subst (λ (n : ℕ). IsBegunBy last n l.event now) none is),
+        subst (λ (cs : List Counted). takes l os cs new) (λ k. left_at (t.0 k) now detaches (t.1 k)) c,
+        (refl, refl),
+      )
+  took_on begun ended last now (x ∷ lines) (ms ∷ met) l os old mid new t is c =
+      let all : ended + (closes ends x.event + ended_in ends lines) ≡ (ended + closes ends x.event) + ended_in ends lines = sym (add_assoc ended (closes ends x.event) (ended_in ends lines)) in (
+        t.0,
+        t.1,
+        t.2,
+        t.3,
+        took_on t.0 (ended + closes ends x.event) last now lines met l os t.1 mid new t.4 (subst (λ (n : ℕ). IsBegunBy last n l.event now) all is) c,
+      )
+  took_on begun ended last now [] (ms ∷ met) l os old mid new t is c = absurd t
+  took_on begun ended last now (x ∷ lines) [] l os old mid new t is c = absurd t
 
 -- ---- what calls met
 
-met_more : (i : ℕ) (lines : List Line) (met : List (List Outcome)) (l : Line) (os : List Outcome) → length met ≡ length lines
+pub met_more : (i : ℕ) (lines : List Line) (met : List (List Outcome)) (l : Line) (os : List Outcome) → length met ≡ length lines
     → met_by i (lines ++ l ∷ []) (met ++ os ∷ []) ≡ met_by i lines met ++ (if nat_eq i l.program then os else [])
 met_more i [] [] l os long = append-nil (if nat_eq i l.program then os else [])
 met_more i (x ∷ lines) (ms ∷ met) l os long =
@@ -145,7 +145,7 @@ none_met earlier programs detaches ds h ds' told none i t et = by h.turns.stage 
 pub none_left_out : (begun : ℕ) (detaches : List Detach) (cs : List Counted) → AreLeft begun detaches cs cs
 none_left_out begun detaches cs = record { there = cs; there_is = inl refl; devices = refl; counts = inl refl }
 
-left_there : (fault : PutFault) (begun : ℕ) (detaches : List Detach) (cs : List Counted) → IsLeft fault begun detaches cs cs
+pub left_there : (fault : PutFault) (begun : ℕ) (detaches : List Detach) (cs : List Counted) → IsLeft fault begun detaches cs cs
 left_there Fault begun detaches cs = refl
 left_there Memory begun detaches cs = none_left_out begun detaches cs
 
@@ -263,9 +263,9 @@ module _ (earlier : ℕ) (programs : List Program) (parts : List Part) (detaches
         lines = lines ++ l ∷ [];
         host = n.stands;
         met = t.told.met ++ n.met ∷ [];
-        took = took_on programs detaches earlier earlier h.turns.begun next.turns.begun lines t.told.met l n.met cs now es t.told.took
+        took = took_on ends_turn (TakesCall programs) detaches earlier earlier h.turns.begun next.turns.begun lines t.told.met l n.met cs now es t.told.took
             (begun_next earlier programs detaches ds lines h (devices_of now) t.told.host next.turns.begun l.event begins) n.takes;
-        meets = met_on lines t.told.met l n.met t.told.host.tellers n.stands.tellers (took_long programs detaches earlier earlier lines t.told.met cs h.turns.begun now t.told.took)
+        meets = met_on lines t.told.met l n.met t.told.host.tellers n.stands.tellers (took_long ends_turn (TakesCall programs) detaches earlier earlier lines t.told.met cs h.turns.begun now t.told.took)
             (n.stands.wide ∙ sym t.told.host.wide) t.told.meets n.meets;
       }
 

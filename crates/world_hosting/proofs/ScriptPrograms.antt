@@ -8,8 +8,8 @@ use Rattle.std.proofs.lemmas.List.Splits.{length-slice_split}
 use Rattle.std.proofs.lemmas.List.Sums.{count_by-le-length}
 use Rattle.wa_model.specs.Outside.{AnswerLine}
 use Rattle.script_model.specs.Script.{EntryText, GlobalText, ProgramText, Script, ScriptFault}
-use Rattle.script_model.specs.ScriptLines.{Statement, begins_program, lists_imports, ignores_imports, saves, has_area, has_steps, sets_global, binds, enters, answers, shows, detaches, line_says}
-use Rattle.script_model.specs.ScriptText.{Numbered, Group, Grouped, AreaText, fault_of, unless_fault, with_line, statements, grouped_with, grouped, default_steps, steps_of, entry_of, global_of, answer_of, area_of, detach_of, told_by, lines_by, program_of, with_program, programs_of, with_programs, script_of, script_text}
+use Rattle.script_model.specs.ScriptLines.{Statement, begins_program, lists_imports, ignores_imports, saves, has_area, has_steps, sets_global, binds, enters, answers, shows, detaches, has_mailbox, line_says}
+use Rattle.script_model.specs.ScriptText.{Numbered, Group, Grouped, AreaText, fault_of, unless_fault, with_line, statements, grouped_with, grouped, default_steps, steps_of, entry_of, global_of, answer_of, area_of, detach_of, mailbox_of, told_by, lines_by, program_of, with_program, programs_of, with_programs, script_of, script_text}
 use Rattle.wa_types.specs.Sizes.{value_fits}
 use Rattle.wa_model.specs.Plan.{AnswerFits}
 use Rattle.pause_host.specs.Moves.{HasShortPokes}
@@ -86,6 +86,7 @@ one_grouped most count line (enters name args) g h le f = first_more most count 
 one_grouped most count line (answers answer) g h le f = first_more most count line (answers answer) g h f
 one_grouped most count line (shows at len) g h le f = first_more most count line (shows at len) g h f
 one_grouped most count line (detaches device before) g h le f = first_more most count line (detaches device before) g h f
+one_grouped most count line (has_mailbox name) g h le f = first_more most count line (has_mailbox name) g h f
 
 grouped_fits : (most : ℕ) (ss : List Numbered) → length ss ≤ most → All NumberedFits ss → GroupedFits most (length ss) (grouped ss)
 grouped_fits most [] le h = record { few = omega arith; first = All-nil NumberedFits; groups = All-nil (GroupFits most) }
@@ -137,6 +138,7 @@ steps_told (enters name args) n h e = cc
 steps_told (answers answer) n h e = cc
 steps_told (shows at len) n h e = cc
 steps_told (detaches device before) n h e = cc
+steps_told (has_mailbox name) n h e = cc
 
 abbrev AnswerOk : AnswerLine → Type 0
 AnswerOk a = HasShortPokes a × AnswerFits a.answer
@@ -156,6 +158,7 @@ answer_told (binds import device) a h e = cc
 answer_told (enters name args) a h e = cc
 answer_told (shows at len) a h e = cc
 answer_told (detaches device before) a h e = cc
+answer_told (has_mailbox name) a h e = cc
 
 abbrev GlobalOk : GlobalText → Type 0
 GlobalOk g = value_fits g.value
@@ -175,6 +178,7 @@ global_told line (enters n args) g h e = cc
 global_told line (answers answer) g h e = cc
 global_told line (shows at len) g h e = cc
 global_told line (detaches device before) g h e = cc
+global_told line (has_mailbox name) g h e = cc
 
 abbrev EntryOk : EntryText → Type 0
 EntryOk y = All value_fits y.args
@@ -194,6 +198,7 @@ entry_told line (binds import device) y h e = cc
 entry_told line (answers answer) y h e = cc
 entry_told line (shows at len) y h e = cc
 entry_told line (detaches device before) y h e = cc
+entry_told line (has_mailbox name) y h e = cc
 
 first_or : (ns : List ℕ) → All IsSteps ns → IsSteps (unwrap_or (slice_get ns 0) default_steps)
 first_or [] h = (omega arith, omega arith)
@@ -269,7 +274,7 @@ script_fits ls (Ok ss) is s e = by (programs_of (grouped ss).groups) refl e wher
   told : StatementsFit ls ss
   told = statements_fit ls 1 [] ss is
 
-  by : (r : Result (List ProgramText) ScriptFault) → programs_of (grouped ss).groups ≡ r → with_programs (told_by detach_of ss) r ≡ Ok s → All (ProgramFits (length ls)) s.programs
+  by : (r : Result (List ProgramText) ScriptFault) → programs_of (grouped ss).groups ≡ r → with_programs (told_by detach_of ss) (lines_by mailbox_of ss) r ≡ Ok s → All (ProgramFits (length ls)) s.programs
   by (Err f) are k = cc
   by (Ok programs) are k =
       let same : programs ≡ s.programs = ap programs_in k in

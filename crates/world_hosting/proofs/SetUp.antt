@@ -3,7 +3,7 @@ use Rattle.std.proofs.Common.{◌≡◌, ℕ, zero, suc, ◌+◌, ◌<◌, List,
 use Rattle.std.specs.List.{cons_option}
 use Rattle.std.proofs.lemmas.Bool.Decides.{nat_tests}
 use Rattle.std.proofs.lemmas.List.{append-nil, length-map, map_more}
-use Rattle.std.proofs.lemmas.List.Elements.{filter_map-append}
+use Rattle.std.proofs.lemmas.List.Elements.{All-cons, All-nil, filter_map-append}
 use Rattle.world_laws.proofs.Places.{of_map, zip_both}
 use Rattle.world_model.specs.World as W
 use Rattle.world_model.specs.World.{Look, at_start}
@@ -11,8 +11,9 @@ use Rattle.event_order.specs.declared.shows.Show.{Show}
 use Rattle.event_order.specs.Looks.{looks_of}
 use Rattle.event_order.specs.Looks as E
 use Rattle.pause_host.specs.declared.program.Program.{Program}
-use Rattle.pause_host.specs.Programs.{Follows, lines_left}
+use Rattle.pause_host.specs.Programs.{Follows, lines_left, receive_in}
 use Rattle.many_host.specs.Hosts.{AreSetUp}
+use Rattle.many_host.specs.MailHosts.{NoneWaits}
 use Rattle.script_reader.specs.declared.script.ShowText.{ShowText}
 use Rattle.script_reader.specs.Views.{show_of}
 use Rattle.transcript.specs.Printing.{names_of}
@@ -113,6 +114,13 @@ are_set_up ps ss h = record {
       subst (λ (v : W.Program). StartsAs i (shows_from 0 ss) v x) p.2
       (subst (λ (y : Program). StartsAs i (shows_from 0 ss) (world_program p.0) y) s.2 (is.follows, is.answers, looks, refl));
 }
+
+-- none of them waits for a mailbox
+pub none_wait : (ps : List Part) (ss : List Staged) → AreStaged ps ss → NoneWaits (programs_of ss)
+none_wait [] [] h = All-nil (λ (x : Program). receive_in x ≡ None)
+none_wait [] (s ∷ ss) h = absurd h
+none_wait (p ∷ ps) [] h = absurd h
+none_wait (p ∷ ps) (s ∷ ss) h = All-cons (λ (x : Program). receive_in x ≡ None) s.program (programs_of ss) h.0.awake (none_wait ps ss h.1)
 
 pub parted_set_up : (ps : List Part) (ss : List Staged) (x : Parted) → AreStaged ps ss → AreParted ss x → AreSetUp (world_programs ps) x.shows.items x.programs.items
 parted_set_up ps ss x h parted =

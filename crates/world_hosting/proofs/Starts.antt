@@ -19,7 +19,7 @@ use Rattle.host_setup.specs.declared.faults.SetupFault.TheVariants.{Memory, Area
 use Rattle.pause_host.specs.Moves.{HasShortPokes}
 use Rattle.pause_host.specs.declared.plan.Plan.{Plan}
 use Rattle.pause_host.specs.declared.program.Program.{Program}
-use Rattle.pause_host.specs.Programs.{BindsAs, Follows, IsPlan, SetsUp, lines_left, named_entries, source_of}
+use Rattle.pause_host.specs.Programs.{BindsAs, Follows, IsPlan, SetsUp, lines_left, named_entries, receive_in, source_of}
 use Rattle.pause_host.specs.Programs as P
 use Rattle.pause_host.specs.Settings.{calls_of}
 use Rattle.script_setup.specs.declared.setting.SetUp.{SetUp as SetUpValue}
@@ -33,10 +33,10 @@ use Rattle.world_hosting.specs.Views.{IsPlanned, Suits, listing}
 use Rattle.script_setup.proofs.Bound.{bound_each}
 
 -- what is made by the rules suits
-pub suits_by_rules : (runs : Bool) (p : Module) (t : ProgramText) (made : SetUpValue) → set_up_rules runs p t ≡ Ok (set_up_of made)
+pub suits_by_rules : (runs : Bool) (boxes : List (List ℕ)) (p : Module) (t : ProgramText) (made : SetUpValue) → set_up_rules runs boxes p t ≡ Ok (set_up_of made)
     → map named_entry_of made.entries.items ≡ map named_entry t.entries → Suits p t made
-suits_by_rules runs p t made e entries =
-    let given = given_by_rules runs p t (set_up_of made) e in
+suits_by_rules runs boxes p t made e entries =
+    let given = given_by_rules runs boxes p t (set_up_of made) e in
     record { entries = entries; funcs = given.funcs; globals = given.globals }
 
 -- the one fault of a plan that has none
@@ -111,10 +111,10 @@ module _ (x : Part) (z : ScriptPlan) (p : IsPlanned x z) where
       let both : ◌≡◌ {A = Result (List ℕ) Fault} (Ok funcs) (Ok x.given.funcs) = sym e ∙ told in
       cc
 
-  pub begins : (program : Program) → SetsUp z.plan (Ok program) → Follows (world_program x) [] [] program × (lines_left program ≡ x.text.answers)
+  pub begins : (program : Program) → SetsUp z.plan (Ok program) → Follows (world_program x) [] [] program × (lines_left program ≡ x.text.answers) × (receive_in program ≡ None)
   begins program up =
       let follows : Follows (P.world_program z.plan up.0 (map look_at x.text.shows) (bindings x.source x.text.binds)) [] [] program =
       up.2 (map look_at x.text.shows) (bindings x.source x.text.binds) binds_as in
       let own : Follows planned [] [] program =
       subst (λ (fs : List ℕ). Follows (P.world_program z.plan fs (map look_at x.text.shows) (bindings x.source x.text.binds)) [] [] program) (same_funcs up.0 up.1) follows in
-      (subst (λ (w : W.Program). Follows w [] [] program) same_world own, up.3 ∙ p.answers)
+      (subst (λ (w : W.Program). Follows w [] [] program) same_world own, up.3 ∙ p.answers, up.4)

@@ -1,12 +1,13 @@
 -- How the stories of originals end, and what lines tell of them.
 use Rattle.std.proofs.Common.{arith, ◌≡◌, ◌<◌, ◌+◌, ℕ, zero, suc, List, [], ◌∷◌, ◌++◌, take, map, Option, Some, None, Bool, true, false, eqb-true, All, refl, sym, ap, ◌∙◌, subst}
 use Rattle.std.specs.Prelude.{nat_lt, nat_eq, if◌then◌else◌, slice_get, ◌||◌, ◌&&◌}
-use Rattle.std.specs.List.{list_any}
+use Rattle.std.specs.List.{AllZip, list_any}
 use Rattle.std.proofs.lemmas.Bool.{ltb-true, lt-ltb}
 use Rattle.std.proofs.lemmas.List.Elements.{All-nil, All-cons, All-head, All-tail, All-append, All-take}
 use Rattle.std.proofs.lemmas.List.Folds.{list_any-append, list_any_none}
 use Rattle.wa_types.specs.Syntax.{Module}
 use Rattle.wa_types.specs.Frames.{Suspended, Room, Fit}
+use Rattle.wa_model.specs.declared.answers.Area.{Area}
 use Rattle.wa_model.specs.declared.answers.Detach.{Detach}
 use Rattle.wa_model.specs.declared.events.End.{End}
 use Rattle.wa_model.specs.declared.events.End.TheVariants.{UnwindTrap, RewindTrap, StepsSpent, Broken}
@@ -20,6 +21,7 @@ use Rattle.run_theory.specs.Shown.{shown_within as expected_of, shown_within_at 
 use Rattle.wa_model.specs.Behaves.{expected_notes}
 use Rattle.world_model.specs.World.{Actor, BlockingStory, Device, Events, IsOver, Look, Original, Program, an_event, behind_turn, bytes_shown, events_with_looks, line_at, look_events, looks_after, no_event, put_off, spent, turn_of, whole}
 use Rattle.world_laws.specs.Bounded.{ends_astray, is_astray}
+use Rattle.world_laws.specs.Originals.{SameMoment}
 use Rattle.world_laws.proofs.Bounded.{bounded_are_whole}
 use Rattle.world_laws.proofs.Places.{all_at, set_here, set_there}
 use Rattle.world_laws.proofs.Turns.{turn_parts}
@@ -34,7 +36,7 @@ or_true : (b : Bool) → b || true ≡ true
 or_true true = refl
 or_true false = refl
 
-same_number : (i : ℕ) → nat_eq i i ≡ true
+pub same_number : (i : ℕ) → nat_eq i i ≡ true
 same_number i = grind arith
 
 -- a note of these tells such an event
@@ -44,10 +46,19 @@ any_note test xs = list_any (λ (x : Note). test x.event) xs
 abbrev Fails : (Event → Bool) → Note → Type 0
 Fails test x = test x.event ≡ false
 
+-- notes beside one another tell the same
+pub same_events : (test : Event → Bool) (globals : ℕ) (area : Area) (xs ys : List Note) → AllZip (SameMoment globals area) xs ys → any_note test ys ≡ any_note test xs
+same_events test globals area [] [] h = refl
+same_events test globals area [] (y ∷ ys) h = absurd h
+same_events test globals area (x ∷ xs) [] h = absurd h
+same_events test globals area (x ∷ xs) (y ∷ ys) h =
+    let e : SameMoment globals area x y = h.0 in
+    ap (λ (v : Event). test v || any_note test ys) (sym e.event) ∙ ap (λ (b : Bool). test x.event || b) (same_events test globals area xs ys h.1)
+
 -- ---- the lines of one program
 
 module _ (test : Event → Bool) (plain : (at : ℕ) (bytes : Option (List ℕ)) → test (shown at bytes) ≡ false) where
-  looks_none : (s : Store) (looks : List Look) → list_any test (look_events s looks) ≡ false
+  pub looks_none : (s : Store) (looks : List Look) → list_any test (look_events s looks) ≡ false
   looks_none s [] = refl
   looks_none s (k ∷ ks) = ap (λ (b : Bool). b || list_any test (look_events s ks)) (plain k.at (bytes_shown s.memory k)) ∙ looks_none s ks
 
@@ -60,7 +71,7 @@ module _ (test : Event → Bool) (plain : (at : ℕ) (bytes : Option (List ℕ))
   after_none looks x (parked used) = refl
   after_none looks x (shown at bytes) = refl
 
-  notes_any : (looks : List Look) (xs : List Note) → list_any test (events_with_looks looks xs) ≡ any_note test xs
+  pub notes_any : (looks : List Look) (xs : List Note) → list_any test (events_with_looks looks xs) ≡ any_note test xs
   notes_any looks [] = refl
   notes_any looks (x ∷ xs) =
       list_any-append test (x.event ∷ looks_after looks x x.event) (events_with_looks looks xs)
@@ -126,7 +137,7 @@ pub record HostsAlone (test : Event → Bool) : Type 0 where
   pub own : (e : Event) → ends_hosts e ≡ false → test e ≡ false
   pub pause : (ticks used : ℕ) → test (paused ticks used) ≡ false
 
-astray_alone : HostsAlone ends_astray
+pub astray_alone : HostsAlone ends_astray
 astray_alone = record { own = own; pause = λ t u. refl }
   where
     ends : (how : End) → is_hosts how ≡ false → is_astray how ≡ false
@@ -138,7 +149,7 @@ astray_alone = record { own = own; pause = λ t u. refl }
     own (ended how) h = ends how h
     own _ h = refl
 
-spent_alone : HostsAlone ends_spent
+pub spent_alone : HostsAlone ends_spent
 spent_alone = record { own = own; pause = λ t u. refl }
   where
     ends : (how : End) → is_hosts how ≡ false → is_spent how ≡ false
@@ -149,7 +160,7 @@ spent_alone = record { own = own; pause = λ t u. refl }
     own (ended how) h = ends how h
     own _ h = refl
 
-unwound_alone : HostsAlone ends_unwound
+pub unwound_alone : HostsAlone ends_unwound
 unwound_alone = record { own = own; pause = λ t u. refl }
   where
     ends : (how : End) → is_hosts how ≡ false → is_unwound how ≡ false
@@ -270,7 +281,7 @@ module _ (o : Original) (os : List Outcome) (fits : All OutcomeFits os) where
   abbrev fit : List Suspended → ℕ
   fit stack = Fit m o.settings.policy stack o.program.plan.area.len
 
-  own : (n : ℕ) → All Own (Blocking m o.program.plan os n).events
+  pub own : (n : ℕ) → All Own (Blocking m o.program.plan os n).events
   own n = blocking_own m o.program.plan os n fits
 
   none_expected : (test : Event → Bool) → HostsAlone test → ((used len : ℕ) → test (ended (UnwindTrap Unreachable used len)) ≡ false) → (n : ℕ) → All (Fails test) (expected n)

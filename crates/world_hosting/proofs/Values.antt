@@ -23,8 +23,8 @@ use Rattle.script_model.specs.Script.{GlobalText, ProgramText, ShowText}
 use Rattle.script_model.specs.ScriptLines.{or_else}
 use Rattle.wa_model.specs.Step.{zero_of}
 use Rattle.host_setup.specs.SetUp as H
-use Rattle.script_setup.specs.SetUpRules.{SetUp, bad_global, bad_show, global_line, global_values, last_value, named_entry, overlaps}
-use Rattle.script_setup.specs.SetUpRules.{set_up_rules, show_line, told_at, told_funcs, unless_told, value_or_zero, with_lines}
+use Rattle.script_setup.specs.SetUpRules.{SetUp, bad_global, bad_show, global_line, global_values, last_value, misbound_line, named_entry, overlaps}
+use Rattle.script_setup.specs.SetUpRules.{set_up_rules, show_line, told_at, told_funcs, told_line, unless_told, value_or_zero, with_lines}
 use Rattle.world_laws.specs.Originals.{ShowsOff}
 use Rattle.world_hosting.specs.Worlds.{look_at}
 
@@ -34,17 +34,19 @@ pub record Kept (p : Module) (t : ProgramText) (s : SetUp) : Type 0 where
   pub globals : s.globals ≡ global_values p.imports t.globals
   pub shows : position (overlaps t.area) t.shows ≡ None
 
-unbroken : (o q : Option ℕ) (t : ProgramText) (x y : SetUp) → unless_told (or_else (told_at 14 (global_line t) o) (told_at 15 (show_line t) q)) x ≡ Ok y → (q ≡ None) × (x ≡ y)
-unbroken (Some i) q t x y e = cc
-unbroken None (Some i) t x y e = cc
-unbroken None None t x y e = (refl, cc)
+unbroken : (o q n : Option ℕ) (t : ProgramText) (x y : SetUp) → unless_told (or_else (told_at 14 (global_line t) o) (or_else (told_at 15 (show_line t) q) (told_line 16 n))) x ≡ Ok y
+    → (q ≡ None) × (x ≡ y)
+unbroken (Some i) q n t x y e = cc
+unbroken None (Some i) n t x y e = cc
+unbroken None None (Some i) t x y e = cc
+unbroken None None None t x y e = (refl, cc)
 
-pub kept_by_rules : (p : Module) (t : ProgramText) (s : SetUp) → set_up_rules true p t ≡ Ok s → Kept p t s
-kept_by_rules p t s e = by (H.set_up p t.area (map named_entry t.entries)) e where
-  by : (r : Result (List ℕ) H.Fault) → with_lines true p.imports t (told_funcs t r) ≡ Ok s → Kept p t s
+pub kept_by_rules : (boxes : List (List ℕ)) (p : Module) (t : ProgramText) (s : SetUp) → set_up_rules true boxes p t ≡ Ok s → Kept p t s
+kept_by_rules boxes p t s e = by (H.set_up p t.area (map named_entry t.entries)) e where
+  by : (r : Result (List ℕ) H.Fault) → with_lines true boxes p t (told_funcs t r) ≡ Ok s → Kept p t s
   by (Err f) h = cc
   by (Ok funcs) h =
-      let n = unbroken (bad_global p.imports t.globals) (bad_show true t.area t.shows) t (record { funcs = funcs; globals = global_values p.imports t.globals }) s h in
+      let n = unbroken (bad_global p.imports t.globals) (bad_show true t.area t.shows) (misbound_line boxes p t.binds) t (record { funcs = funcs; globals = global_values p.imports t.globals }) s h in
       record { globals = sym (ap (λ (x : SetUp). x.globals) n.1); shows = n.0 }
 
 -- ---- values in range

@@ -1,18 +1,18 @@
 -- What each device has answered in a run.
-use Rattle.std.specs.Prelude.{◌≡◌, ◌+◌, ◌++◌, ◌&&◌, if◌then◌else◌, ℕ, suc, nat_eq, nat_lt, nat_le, List, [], ◌∷◌, map, Option, Some, None, slice_get}
+use Rattle.std.specs.Prelude.{◌≡◌, ◌+◌, ◌++◌, ◌&&◌, if◌then◌else◌, ℕ, suc, nat_eq, nat_lt, nat_le, Bool, List, [], ◌∷◌, map, Option, Some, None, slice_get}
 use Rattle.std.specs.Option.{option_to_list}
 use Rattle.wa_types.specs.declared.values.Value.{Value}
 use Rattle.wa_types.specs.Validity.{same_name}
 use Rattle.wa_model.specs.declared.answers.Detach.{Detach}
 use Rattle.wa_model.specs.declared.answers.Said.{Said}
 use Rattle.wa_model.specs.declared.answers.Said.TheVariants as S
-use Rattle.wa_model.specs.Outside.{Call, Line}
+use Rattle.wa_model.specs.Outside.{Call, Event, Line}
 use Rattle.wa_model.specs.Plan.{Outcome, given}
-use Rattle.world_model.specs.World.{Asked, Device, Program, Reply, base_names, call_in, is_named, name_at}
+use Rattle.world_model.specs.World.{Asked, Device, Program, Reply, base_names, call_in, ends_turn, is_named, name_at}
 use Rattle.event_order.specs.Left.{Counted}
 use Rattle.host_laws.specs.Supplies.{bound_to}
 use Rattle.many_host.specs.Calls.{devices_of}
-use Rattle.world_hosting.specs.Counts.{turns_at}
+use Rattle.world_hosting.specs.Counts.{closes}
 use Rattle.world_hosting.specs.Worlds.{AreTold, Part, turn_count, world_programs}
 
 -- ---- the calls that devices have answered
@@ -34,16 +34,20 @@ logged_to (Some device) event base args (given a) =
     map (λ (r : Reply). record { event = event; device = device; asked = record { base = base; args = args; reply = r } }) (option_to_list (reply_of a.said a.ticks))
 logged_to _ event base args o = []
 
--- the same of a program's call, which met this outcome
-abbrev pub logged_by : Option Program → (event : ℕ) → Option Call → (met : List Outcome) → List Logged
-logged_by (Some w) event (Some c) (o ∷ os) = logged_to (bound_to w c.import) event (name_at (base_names w.source) c.import) c.args o
-logged_by _ event _ _ = []
+-- the same of a program's call, which met this outcome, where its imports ask these devices
+abbrev pub logged_as : (asks : Program → (import : ℕ) → Option (List ℕ)) → Option Program → (event : ℕ) → Option Call → (met : List Outcome) → List Logged
+logged_as asks (Some w) event (Some c) (o ∷ os) = logged_to (asks w c.import) event (name_at (base_names w.source) c.import) c.args o
+logged_as asks _ event _ _ = []
 
--- the answered calls that lines tell, in order of events and, within an event, in order of calls; so many turns were over before
+-- the answered calls that lines tell, in order of events and, within an event, in order of calls; so many events had ended before
+abbrev pub answered_as : (ends : Event → Bool) → (asks : Program → (import : ℕ) → Option (List ℕ)) → List Program → (over : ℕ) → List Line → (met : List (List Outcome)) → List Logged
+answered_as ends asks programs over (l ∷ ls) (os ∷ met) =
+    logged_as asks (slice_get programs l.program) (suc over) (call_in l.event) os ++ answered_as ends asks programs (over + closes ends l.event) ls met
+answered_as ends asks programs over _ _ = []
+
+-- the same of programs without mailboxes, whose bound imports all ask devices
 abbrev pub answered_calls : List Program → (over : ℕ) → List Line → (met : List (List Outcome)) → List Logged
-answered_calls programs over (l ∷ ls) (os ∷ met) =
-    logged_by (slice_get programs l.program) (suc over) (call_in l.event) os ++ answered_calls programs (over + turns_at l.event) ls met
-answered_calls programs over _ _ = []
+answered_calls = answered_as ends_turn bound_to
 
 -- ---- devices of one name
 

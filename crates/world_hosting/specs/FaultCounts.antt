@@ -1,15 +1,15 @@
 -- Faults of devices: what the lines of a world tell of them, and what the devices count.
-use Rattle.std.specs.Prelude.{◌≡◌, ◌⊎◌, ◌≤◌, ◌+◌, ◌-◌, ◌^◌, ℕ, suc, if◌then◌else◌, List, [], ◌∷◌, Option, Some, None, slice_get}
+use Rattle.std.specs.Prelude.{◌≡◌, ◌⊎◌, ◌≤◌, ◌+◌, ◌-◌, ◌^◌, ℕ, suc, if◌then◌else◌, Bool, List, [], ◌∷◌, Option, Some, None, slice_get}
 use Rattle.std.specs.List.{AllZip}
 use Rattle.wa_model.specs.declared.answers.Detach.{Detach}
 use Rattle.wa_model.specs.declared.events.End.{End}
 use Rattle.wa_model.specs.declared.events.End.TheVariants.{DeviceFault}
 use Rattle.wa_model.specs.Outside.{Event, ended, shown, Line}
-use Rattle.world_model.specs.World.{Program, is_named}
+use Rattle.world_model.specs.World.{Program, ends_turn, is_named}
 use Rattle.event_order.specs.Left.{Counted}
 use Rattle.host_laws.specs.Supplies.{bound_to}
 use Rattle.many_host.specs.Calls.{left_at}
-use Rattle.world_hosting.specs.Counts.{turns_at}
+use Rattle.world_hosting.specs.Counts.{closes}
 use Rattle.world_hosting.specs.Worlds.{AreTold, Part, world_programs}
 
 -- ---- the device that a line tells of
@@ -45,18 +45,22 @@ abbrev pub one_more_if : Option (List ℕ) → List Counted → List Counted
 one_more_if None cs = cs
 one_more_if (Some name) cs = one_more name cs
 
--- The number of a line's event: one more than the turns that were over. Memory that is shown begins none.
+-- The number of a line's event: one more than the events that were over. Memory that is shown begins none.
 abbrev pub event_at : (begun over : ℕ) → Event → ℕ
 event_at begun over (shown at bytes) = begun
 event_at begun over _ = suc over
 
 -- The devices that are left behind these lines, each with its count of faults and one more for each line that tells a fault of it: a call
--- asks the first device of a name that is left when the line's event has begun. So many events had begun before, and so many turns were over.
-abbrev pub with_told : List Program → List Detach → (begun over : ℕ) → List Line → List Counted → List Counted
-with_told programs detaches begun over [] cs = cs
-with_told programs detaches begun over (l ∷ ls) cs =
-    with_told programs detaches (event_at begun over l.event) (over + turns_at l.event) ls
+-- asks the first device of a name that is left when the line's event has begun. So many events had begun before, and so many had ended.
+abbrev pub with_told_by : (ends : Event → Bool) → List Program → List Detach → (begun over : ℕ) → List Line → List Counted → List Counted
+with_told_by ends programs detaches begun over [] cs = cs
+with_told_by ends programs detaches begun over (l ∷ ls) cs =
+    with_told_by ends programs detaches (event_at begun over l.event) (over + closes ends l.event) ls
     (one_more_if (failed_by programs l) (left_at begun (event_at begun over l.event) detaches cs))
+
+-- the same of programs without mailboxes
+abbrev pub with_told : List Program → List Detach → (begun over : ℕ) → List Line → List Counted → List Counted
+with_told = with_told_by ends_turn
 
 -- ---- the law
 

@@ -4,6 +4,12 @@ pub mod DeviceLogs
 pub mod Endings
 pub mod FaultCounts
 pub mod Laws
+pub mod MailCounts
+pub mod MailEndings
+pub mod MailFaults
+pub mod MailLogs
+pub mod MailOriginalRuns
+pub mod MailWorlds
 pub mod OriginalRuns
 pub mod Parted
 pub mod Resuming

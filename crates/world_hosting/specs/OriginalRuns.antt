@@ -1,5 +1,5 @@
 -- What is told of programs over rewritten modules, as a run of their originals.
-use Rattle.std.specs.Prelude.{◌≡◌, List, [], ◌∷◌, Some, Bool, Ok, true, false}
+use Rattle.std.specs.Prelude.{◌≡◌, ℕ, List, [], ◌∷◌, Some, Bool, Ok, true, false}
 use Rattle.std.specs.List.{AllZip}
 use Rattle.wa_types.specs.Pausing.{Settings, Listed, TellsMayPause}
 use Rattle.wa_types.specs.Sizes.{WellFormed}
@@ -18,7 +18,8 @@ pub record Source : Type 0 where
   pub original : Module
   pub settings : Settings
 
--- The program's module is this one, rewritten without ignoring `call_indirect`; its values are in range, and it keeps the rules.
+-- The program's module is this one, rewritten without ignoring `call_indirect`; its values are in range, and it keeps the rules, beside
+-- mailboxes of some names.
 pub record IsRewritten (x : Source) (y : Part) : Type 0 where
   pub rewrites : Rewrites x.original x.settings y.source
   pub well_formed : WellFormed x.original
@@ -27,7 +28,8 @@ pub record IsRewritten (x : Source) (y : Part) : Type 0 where
   pub heeds : x.settings.ignore_indirect ≡ false
   pub listed : y.listed ≡ Some (Listed x.original x.settings)
   pub ranges : HasRanges y.text
-  pub set_up : set_up_rules true y.source y.text ≡ Ok y.given
+  pub boxes : List (List ℕ)
+  pub set_up : set_up_rules true boxes y.source y.text ≡ Ok y.given
 
 -- the original for which the program stands
 abbrev pub original_for : Source → Part → Original

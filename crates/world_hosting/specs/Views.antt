@@ -1,5 +1,5 @@
 -- What is set up, as the program has it.
-use Rattle.std.specs.Prelude.{◌≡◌, List, [], Option, Bool, Ok, map}
+use Rattle.std.specs.Prelude.{◌≡◌, List, [], Option, None, Bool, Ok, map}
 use Rattle.std.specs.List.{AllZip}
 use Rattle.std.specs.Option.{option_map}
 use Rattle.std.specs.Global.{Vec}
@@ -10,7 +10,7 @@ use Rattle.run_theory.specs.Fitting.{global_types, types_of}
 use Rattle.script_model.specs.Script.{ProgramText}
 use Rattle.host_setup.specs.SetUp.{set_up}
 use Rattle.host_setup.specs.Views.{entry_of as named_entry_of}
-use Rattle.pause_host.specs.Programs.{Follows, IsPlan, lines_left, named_entries, source_of}
+use Rattle.pause_host.specs.Programs.{Follows, IsPlan, lines_left, named_entries, receive_in, source_of}
 use Rattle.script_reader.specs.Views.{show_of}
 use Rattle.script_setup.specs.declared.setting.SetUp.{SetUp}
 use Rattle.script_setup.specs.Bindings.{bindings}
@@ -45,11 +45,12 @@ pub record IsPlanned (x : Part) (z : ScriptPlan) : Type 0 where
   pub names : names_of z.names ≡ part_names x
   pub shows : map show_of z.shows.items ≡ x.text.shows
 
--- A program of a script that is set up: it has told nothing yet of its story, and has the names of its lines and what is shown behind
--- its end.
+-- A program of a script that is set up: it has told nothing yet of its story, waits for no mailbox, and has the names of its lines and what
+-- is shown behind its end.
 pub record IsStaged (x : Part) (s : Staged) : Type 0 where
   pub follows : Follows (world_program x) [] [] s.program
   pub answers : lines_left s.program ≡ x.text.answers
+  pub awake : receive_in s.program ≡ None
   pub names : names_of s.names ≡ part_names x
   pub shows : map show_of s.shows.items ≡ x.text.shows
 

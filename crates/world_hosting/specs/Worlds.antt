@@ -1,5 +1,5 @@
 -- What is told of the programs of a script, which share a list of devices.
-use Rattle.std.specs.Prelude.{◌≡◌, ◌⊎◌, ◌≤◌, ◌<◌, ◌^◌, ◌+◌, ◌++◌, ℕ, List, [], ◌∷◌, length, map, take, Option, Some, Bool, All}
+use Rattle.std.specs.Prelude.{◌≡◌, ◌⊎◌, ◌≤◌, ◌<◌, ◌^◌, ◌++◌, ℕ, List, length, map, take, Option, Some, Bool, All}
 use Rattle.wa_types.specs.Modules.{func_imports}
 use Rattle.wa_types.specs.Sizes.{value_fits}
 use Rattle.wa_types.specs.Syntax.{Module}
@@ -8,7 +8,7 @@ use Rattle.wa_model.specs.Outside.{AnswerLine, Line}
 use Rattle.wa_model.specs.Plan.{AnswerFits, Outcome}
 use Rattle.script_model.specs.Script.{EntryText, GlobalText, ProgramText, ShowText}
 use Rattle.script_model.specs.Transcript.{Names, Transcript, event_lines}
-use Rattle.world_model.specs.World.{Device, Look, Program, ProtocolWorldFrom, at_start}
+use Rattle.world_model.specs.World.{Device, Look, Program, ProtocolWorldFrom, at_start, ends_turn}
 use Rattle.event_order.specs.Left.{Counted}
 use Rattle.pause_host.specs.Moves.{HasShortPokes}
 use Rattle.pause_host.specs.Settings.{calls_of}
@@ -20,7 +20,7 @@ use Rattle.vault_port.specs.declared.whole.PutFault.TheVariants.{Fault, Memory}
 use Rattle.vault_port.specs.Taken.{Appends, AppendsPast}
 use Rattle.vault_port.specs.Told.{Becomes}
 use Rattle.script_setup.specs.Bindings.{bindings}
-use Rattle.world_hosting.specs.Counts.{AreMet, Took, turns_at}
+use Rattle.world_hosting.specs.Counts.{AreMet, Took, ended_in}
 
 -- ---- what is asked of a program
 
@@ -83,8 +83,7 @@ world_programs parts = map world_program parts
 
 -- how many turns end in these lines
 abbrev pub turn_count : List Line → ℕ
-turn_count [] = 0
-turn_count (l ∷ ls) = turns_at l.event + turn_count ls
+turn_count = ended_in ends_turn
 
 -- The text tells a whole run of the protocol world of these programs, behind so many earlier events, from these devices to those: its
 -- lines, and the last line, which counts all events. What its calls met is what was taken of the devices.

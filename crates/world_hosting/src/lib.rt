@@ -18,6 +18,9 @@
 //! - A program whose imports are bound to no device has the lines that it would have alone, its number aside (`specs/ToldAlone.antt`).
 //! - Each line `end device fault` stands for a fault that the asked device has counted (`specs/FaultCounts.antt`).
 //! - Each device that is left has behind its journal its log: the answered calls to it, in order (`specs/DeviceLogs.antt`).
+//! - Where programs share mailboxes, which hide the devices of their names (`specs/MailWorlds.antt`), the lines and ends are those of the
+//!   originals likewise, or a program stalls (`specs/MailOriginalRuns.antt`, `specs/MailEndings.antt`); faults are counted and devices
+//!   logged as without (`specs/MailFaults.antt`, `specs/MailLogs.antt`).
 //! - A snapshot of programs that are set up suits them: each of its records is one that `resume_program` takes (`specs/SnapshotsSuit.antt`).
 //!
 //! Scripts aren't read here, and modules neither fetched nor rewritten: that is `script_command`.
@@ -45,10 +48,13 @@ mod telling;
 mod told_alone;
 
 pub use continuing::continue_programs;
-pub use device_logs::told_devices_are_logged;
-pub use fault_counts::told_faults_are_counted;
+pub use device_logs::{told_devices_are_logged, told_devices_with_mail_are_logged};
+pub use fault_counts::{told_faults_are_counted, told_faults_with_mail_are_counted};
 pub use laws::{scripts_fit, scripts_in_range};
-pub use originals_told::{told_of_originals, told_programs_end_as_originals};
+pub use originals_told::{
+    told_of_originals, told_programs_end_as_originals, told_with_mail_end_as_originals,
+    told_with_mail_of_originals,
+};
 pub use pause_host::ThawFault;
 pub use resuming::{Resumed, records_are_resumed, resume_program};
 pub use saving::save_programs;

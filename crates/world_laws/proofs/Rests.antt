@@ -49,21 +49,21 @@ calls_more w (x ∷ xs) ys os more lines lines1 lines2 ds ds1 ds2 h k = by (call
   by None m on = on os lines ds m
   by (Some call) m on = (m.0, m.1 ++ more, m.2, m.3, ap (λ (l : List Outcome). l ++ more) m.4, m.5, on m.1 m.2 m.3 m.6)
 
-no_calls : (w : Program) (xs : List Note) (lines : List AnswerLine) (ds : List Device) → new_calls xs ≡ 0 → CallsMeet w xs [] lines ds [] lines ds
+pub no_calls : (w : Program) (xs : List Note) (lines : List AnswerLine) (ds : List Device) → new_calls xs ≡ 0 → CallsMeet w xs [] lines ds [] lines ds
 no_calls w [] lines ds e = (refl, refl, refl)
 no_calls w (x ∷ xs) lines ds e = by (call_in x.event) e (λ z. no_calls w xs lines ds z) where
   by : (c : Option Call) → one_if c + new_calls xs ≡ 0 → (new_calls xs ≡ 0 → CallsMeet w xs [] lines ds [] lines ds) → NoteMeets w c [] lines ds (λ o l d. CallsMeet w xs o l d [] lines ds)
   by None e on = on (omega (arith, e))
   by (Some c) e on = let no_way : ⊥ = omega (arith, e) in absurd no_way
 
-one_call : (w : Program) (y : Note) (c : Call) (o : Outcome) (lines left : List AnswerLine) (ds : List Device) → y.event ≡ called c → Meets w c.import c.args lines ds o left ds
+pub one_call : (w : Program) (y : Note) (c : Call) (o : Outcome) (lines left : List AnswerLine) (ds : List Device) → y.event ≡ called c → Meets w c.import c.args lines ds o left ds
     → CallsMeet w (y ∷ []) (o ∷ []) lines ds [] left ds
 one_call w y c o lines left ds is m =
     subst (λ (v : Event). NoteMeets w (call_in v) (o ∷ []) lines ds (λ us l d. CallsMeet w [] us l d [] left ds)) (sym is) (o, [], left, ds, refl, m, (refl, refl, refl))
 
 -- ---- what a call meets where devices fail: a refusal, or the next answer line
 
-abbrev Refuses : Program → Call → List AnswerLine → List Device → Type 0
+abbrev pub Refuses : Program → Call → List AnswerLine → List Device → Type 0
 Refuses w c lines ds = (e : End) × (left : List AnswerLine) × Meets w c.import c.args lines ds (refused e) left ds
 
 module _ (w : Program) (c : Call) (ds : List Device) where
@@ -90,13 +90,13 @@ module _ (w : Program) (c : Call) (ds : List Device) where
   bound_refuses : (name : List ℕ) (lines : List AnswerLine) → binding ≡ Some name → Refuses w c lines ds
   bound_refuses name lines e = let d = device_fails (name_at (base_names w.source) c.import) name in (d.0, lines, by_binding lines lines (refused d.0) (Some name) e (d.1, refl))
 
-  no_line : Refuses w c [] ds
+  pub no_line : Refuses w c [] ds
   no_line = by binding refl where
     by : (b : Option (List ℕ)) → binding ≡ b → Refuses w c [] ds
     by (Some name) e = bound_refuses name [] e
     by None e = (NoAnswer c.import, [], by_binding [] [] (refused (NoAnswer c.import)) None e ((refl, refl), refl))
 
-  next_line : (l : AnswerLine) (ls : List AnswerLine) → Refuses w c (l ∷ ls) ds ⊎ Meets w c.import c.args (l ∷ ls) ds (given l.answer) ls ds
+  pub next_line : (l : AnswerLine) (ls : List AnswerLine) → Refuses w c (l ∷ ls) ds ⊎ Meets w c.import c.args (l ∷ ls) ds (given l.answer) ls ds
   next_line l ls = by binding refl where
     by_line : (o : Outcome) (left : List AnswerLine) (b : Bool) → same_name l.import (name_at (import_names w.source) c.import) ≡ b
         → MatchBool b ((o ≡ given l.answer) × (left ≡ ls)) ((o ≡ refused (OtherImport c.import l.import)) × (left ≡ l ∷ ls)) → binding ≡ None → Meets w c.import c.args (l ∷ ls) ds o left ds

@@ -1,4 +1,8 @@
 -- The programs of a script that was read.
+use Rattle.std.proofs.Common.{List, map, subst}
+use Rattle.script_reader.specs.Views.{program_of}
+use Rattle.script_reader.specs.declared.script.MailboxText.{MailboxText}
+use Rattle.script_command.specs.Views.{AreOpened, boxes_of}
 use Rattle.script_command.proofs.Scripts.{few_texts, plays, texts_choose, texts_fit}
 use Rattle.script_command.proofs.opening.open_whole.Goals as goal
 
@@ -12,4 +16,7 @@ pub open_programs-requires-clause-choices : goal.open_programs-requires-clause-c
 open_programs-requires-clause-choices g c = texts_choose c.args.whole c.requires
 
 pub returns-in-Ok-clause-plays : goal.returns-in-Ok-clause-plays
-returns-in-Ok-clause-plays g c = plays c.args.whole c.requires c.args.way _ _ c.in-Ok.ensures.opened
+returns-in-Ok-clause-plays g c =
+    plays c.args.whole c.requires c.args.way (g.V.Vault.files c.args.vault.now) _
+    (subst (λ (ms : List MailboxText). AreOpened c.args.way (boxes_of ms) (g.V.Vault.files c.args.vault.now) (map program_of c.args.whole.programs.items) c.in-Ok.programs) c.deref.ensures.value
+    c.in-Ok.ensures.opened)

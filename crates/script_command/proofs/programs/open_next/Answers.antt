@@ -16,7 +16,7 @@ returns-in-Ok-clause-opened g c = c.plan_program.ensures.opened _ c.in-Ok.ensure
 pub returns-in-Ok-clause-refused : goal.returns-in-Ok-clause-refused
 returns-in-Ok-clause-refused g c =
     IfErr-weaker c.plan_program.result _ _
-    (λ stop b. line_stops _ _ _ c.args.way _ (program_of c.args.text) _ stop (c.in-Ok.ensures.stays (λ e. cc))
+    (λ stop b. line_stops _ _ _ c.args.way _ _ (program_of c.args.text) _ stop (c.in-Ok.ensures.stays (λ e. cc))
     (λ line rule e. (module_of c.in-Ok.loaded.valid, listing c.in-Ok.loaded.listed, c.in-Ok.ensures.loaded.module_is, e)) b) c.plan_program.ensures.refused
 
 pub fetch_module-requires : goal.fetch_module-requires
@@ -39,5 +39,5 @@ returns-clause-refused g c =
     let moved = c.in-Err-Refused.kind-is in
     let made = c.refused_module.ensures in
     let is : c.refused_module.result ≡ refused_module c.len-number.result c.in-Err-Refused.kind = cc in
-    module_stops _ _ _ c.args.way _ _ (program_of c.args.text) c.in-Err-Refused.kind c.refused_module.result number
+    module_stops _ _ _ c.args.way _ _ _ (program_of c.args.text) c.in-Err-Refused.kind c.refused_module.result number
     (c.in-Err-Refused.ensures.stays (λ e. let f = c.in-Err-Refused.field-0-is in cc)) h is

@@ -1,5 +1,4 @@
 use Rattle.std.proofs.Common.{◌≡◌, drop}
-use Rattle.script_model.specs.Script.{device_line}
 use Rattle.script_reader.proofs.Devices.{first_device}
 use Rattle.script_reader.proofs.script.device_line.Given as goal
 

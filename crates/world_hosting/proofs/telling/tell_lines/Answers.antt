@@ -36,17 +36,17 @@ telling-preserved g c = record {
       let t = so_far.0 in
       let ds = devices_of (counted (λ z. (goal.Device-dyn g z).seen z.1) (λ z. (goal.Device-dyn g z).faults z.1) c.args.devices.now) in
       let next =
-      line_told earlier programs detaches ds t.told.lines t.told.host.tellers _ _ _ c.next.new.self _ c.in-Ok.next c.in-Some.line c.in-Some.is
+      line_told earlier programs detaches ds t.told.lines t.told.host.tellers _ _ _ c.next_without_mail.new.self _ c.in-Ok.next c.in-Some.line c.in-Some.is
       (c.in-Ok.ensures.told_from earlier programs detaches ds t.told.lines
       (host_seen (λ z. (goal.Device-dyn g z).seen z.1) (λ z. (goal.Device-dyn g z).faults z.1) earlier programs detaches ds t.told.lines c.telling.devices c.telling.host t.told.host)) in
-      let counts = line_counted (λ z. (goal.Device-dyn g z).seen z.1) (λ z. (goal.Device-dyn g z).faults z.1) earlier programs detaches ds t.told.lines t.told.host.tellers _ _ (line_of c.in-Some.line) c.next.new.devices c.next.new.self next in
+      let counts = line_counted (λ z. (goal.Device-dyn g z).seen z.1) (λ z. (goal.Device-dyn g z).faults z.1) earlier programs detaches ds t.told.lines t.told.host.tellers _ _ (line_of c.in-Some.line) c.next_without_mail.new.devices c.next_without_mail.new.self next in
       let begins = line_begins _ _ _ c.in-Ok.next c.in-Some.line c.in-Some.is c.in-Ok.ensures.begun in
       let more =
-      told_on earlier programs parts detaches _ c.telling.host _ _ _ t c.next.new.self _ (map names_of c.args.names.now) b.names_are (line_of c.in-Some.line) counts begins _
+      told_on earlier programs parts detaches _ c.telling.host _ _ _ t c.next_without_mail.new.self _ (map names_of c.args.names.now) b.names_are (line_of c.in-Some.line) counts begins _
       c.in_default-put_line.ensures.printed in
       (more.0, omega (arith, more.1, so_far.1));
   range = c.in-Ok.ensures.range;
-  same_list = c.next.ensures.same_list ∙ c.telling.invariant.same_list;
+  same_list = c.next_without_mail.ensures.same_list ∙ c.telling.invariant.same_list;
   steady = c.in_default-put_line.ensures.stays (λ e. cc) ∙ c.telling.invariant.steady;
 }
 
@@ -55,18 +55,18 @@ returns-in_default-clause-part g c = λ earlier programs parts detaches b.
     let t = (c.telling.invariant.told earlier programs parts detaches b).0 in
     let ds = devices_of (counted (λ z. (goal.Device-dyn g z).seen z.1) (λ z. (goal.Device-dyn g z).faults z.1) c.args.devices.now) in
     told_so_far earlier programs parts detaches _ c.telling.host _ _ _ t _
-    (c.next.ensures.left_from earlier programs detaches ds t.told.lines
-    (host_seen (λ z. (goal.Device-dyn g z).seen z.1) (λ z. (goal.Device-dyn g z).faults z.1) earlier programs detaches ds t.told.lines c.telling.devices c.telling.host t.told.host) (has_failed c.next.result c.in_default.not-Ok))
+    (c.next_without_mail.ensures.left_from earlier programs detaches ds t.told.lines
+    (host_seen (λ z. (goal.Device-dyn g z).seen z.1) (λ z. (goal.Device-dyn g z).faults z.1) earlier programs detaches ds t.told.lines c.telling.devices c.telling.host t.told.host) (has_failed c.next_without_mail.result c.in_default.not-Ok))
 
 pub returns-in_default-next-clause-told : goal.returns-in_default-next-clause-told
 returns-in_default-next-clause-told g c = λ earlier programs parts detaches b.
     let t = (c.telling.invariant.told earlier programs parts detaches b).0 in
     let ds = devices_of (counted (λ z. (goal.Device-dyn g z).seen z.1) (λ z. (goal.Device-dyn g z).faults z.1) c.args.devices.now) in
     let world =
-    none_told earlier programs detaches ds t.told.lines t.told.host.tellers _ _ _ c.next.new.self _ c.in-Ok.next c.in_default-next.is
+    none_told earlier programs detaches ds t.told.lines t.told.host.tellers _ _ _ c.next_without_mail.new.self _ c.in-Ok.next c.in_default-next.is
     (c.in-Ok.ensures.told_from earlier programs detaches ds t.told.lines
     (host_seen (λ z. (goal.Device-dyn g z).seen z.1) (λ z. (goal.Device-dyn g z).faults z.1) earlier programs detaches ds t.told.lines c.telling.devices c.telling.host t.told.host)) in
-    let both = world_counted (λ z. (goal.Device-dyn g z).seen z.1) (λ z. (goal.Device-dyn g z).faults z.1) earlier programs detaches ds t.told.lines c.next.new.devices t.told.host.tellers (world.0, world.1) in
+    let both = world_counted (λ z. (goal.Device-dyn g z).seen z.1) (λ z. (goal.Device-dyn g z).faults z.1) earlier programs detaches ds t.told.lines c.next_without_mail.new.devices t.told.host.tellers (world.0, world.1) in
     on_ok c.put_last.result
     (told_whole earlier programs parts detaches _ c.telling.host _ _ _ t _ c.args.names.now b.names_are both.0 both.1 world.2
     (none_left _ _ c.in-Ok.next c.in_default-next.is c.in-Ok.ensures.none) _)
@@ -78,10 +78,10 @@ returns-in_default-next-clause-part g c = λ earlier programs parts detaches b.
     let t = (c.telling.invariant.told earlier programs parts detaches b).0 in
     let ds = devices_of (counted (λ z. (goal.Device-dyn g z).seen z.1) (λ z. (goal.Device-dyn g z).faults z.1) c.args.devices.now) in
     let world =
-    none_told earlier programs detaches ds t.told.lines t.told.host.tellers _ _ _ c.next.new.self _ c.in-Ok.next c.in_default-next.is
+    none_told earlier programs detaches ds t.told.lines t.told.host.tellers _ _ _ c.next_without_mail.new.self _ c.in-Ok.next c.in_default-next.is
     (c.in-Ok.ensures.told_from earlier programs detaches ds t.told.lines
     (host_seen (λ z. (goal.Device-dyn g z).seen z.1) (λ z. (goal.Device-dyn g z).faults z.1) earlier programs detaches ds t.told.lines c.telling.devices c.telling.host t.told.host)) in
-    let both = world_counted (λ z. (goal.Device-dyn g z).seen z.1) (λ z. (goal.Device-dyn g z).faults z.1) earlier programs detaches ds t.told.lines c.next.new.devices t.told.host.tellers (world.0, world.1) in
+    let both = world_counted (λ z. (goal.Device-dyn g z).seen z.1) (λ z. (goal.Device-dyn g z).faults z.1) earlier programs detaches ds t.told.lines c.next_without_mail.new.devices t.told.host.tellers (world.0, world.1) in
     if_err _ c.put_last.result
     (λ fault. told_less_last earlier programs parts detaches _ c.telling.host _ _ _ t _ c.args.names.now b.names_are both.0 both.1 world.2
     (none_left _ _ c.in-Ok.next c.in_default-next.is c.in-Ok.ensures.none) fault _)
@@ -93,16 +93,16 @@ returns-in-Err-clause-part g c = λ earlier programs parts detaches b.
     let t = (c.telling.invariant.told earlier programs parts detaches b).0 in
     let ds = devices_of (counted (λ z. (goal.Device-dyn g z).seen z.1) (λ z. (goal.Device-dyn g z).faults z.1) c.args.devices.now) in
     let next =
-    line_told earlier programs detaches ds t.told.lines t.told.host.tellers _ _ _ c.next.new.self _ c.in-Ok.next c.in-Some.line c.in-Some.is
+    line_told earlier programs detaches ds t.told.lines t.told.host.tellers _ _ _ c.next_without_mail.new.self _ c.in-Ok.next c.in-Some.line c.in-Some.is
     (c.in-Ok.ensures.told_from earlier programs detaches ds t.told.lines
     (host_seen (λ z. (goal.Device-dyn g z).seen z.1) (λ z. (goal.Device-dyn g z).faults z.1) earlier programs detaches ds t.told.lines c.telling.devices c.telling.host t.told.host)) in
-    let counts = line_counted (λ z. (goal.Device-dyn g z).seen z.1) (λ z. (goal.Device-dyn g z).faults z.1) earlier programs detaches ds t.told.lines t.told.host.tellers _ _ (line_of c.in-Some.line) c.next.new.devices c.next.new.self next in
+    let counts = line_counted (λ z. (goal.Device-dyn g z).seen z.1) (λ z. (goal.Device-dyn g z).faults z.1) earlier programs detaches ds t.told.lines t.told.host.tellers _ _ (line_of c.in-Some.line) c.next_without_mail.new.devices c.next_without_mail.new.self next in
     let begins = line_begins _ _ _ c.in-Ok.next c.in-Some.line c.in-Some.is c.in-Ok.ensures.begun in
-    told_less earlier programs parts detaches _ c.telling.host _ _ _ t c.next.new.self _ (map names_of c.args.names.now) b.names_are (line_of c.in-Some.line) counts begins c.in-Err.fault _
+    told_less earlier programs parts detaches _ c.telling.host _ _ _ t c.next_without_mail.new.self _ (map names_of c.args.names.now) b.names_are (line_of c.in-Some.line) counts begins c.in-Err.fault _
     c.in-Err.ensures.less
 
-pub next-requires-clause-tells : goal.next-requires-clause-tells
-next-requires-clause-tells g c =
+pub next_without_mail-requires-clause-tells : goal.next_without_mail-requires-clause-tells
+next_without_mail-requires-clause-tells g c =
     let b = c.requires.begins in
     let so_far = (c.telling.invariant.told b.earlier b.programs b.parts b.detaches b.begins).0 in
     let t = so_far.told in
@@ -123,7 +123,7 @@ put_line-requires g c =
     let t = (c.telling.invariant.told b.earlier b.programs b.parts b.detaches begins).0 in
     let ds = devices_of (counted (λ z. (goal.Device-dyn g z).seen z.1) (λ z. (goal.Device-dyn g z).faults z.1) c.args.devices.now) in
     let next =
-    line_told b.earlier b.programs b.detaches ds t.told.lines t.told.host.tellers _ _ _ c.next.new.self _ c.in-Ok.next c.in-Some.line c.in-Some.is
+    line_told b.earlier b.programs b.detaches ds t.told.lines t.told.host.tellers _ _ _ c.next_without_mail.new.self _ c.in-Ok.next c.in-Some.line c.in-Some.is
     (c.in-Ok.ensures.told_from b.earlier b.programs b.detaches ds t.told.lines
     (host_seen (λ z. (goal.Device-dyn g z).seen z.1) (λ z. (goal.Device-dyn g z).faults z.1) b.earlier b.programs b.detaches ds t.told.lines c.telling.devices c.telling.host t.told.host)) in
     within_names b.programs b.parts c.args.names.now (line_of c.in-Some.line) next.takes.w begins.wide begins.names_are next.takes.program
