@@ -73,7 +73,7 @@ fn told(alloc: Global, host: &mut Host<'_>) -> Result<String, Fail> {
     let mut boxes = Vec::new(alloc);
     let mut devices = Devices::new(&mut boxes);
     for _ in 0..20 {
-        let Some(next) = host.next(&mut devices)? else {
+        let Some(next) = host.next_without_mail(&mut devices)? else {
             break;
         };
         text.extend_from_slice(&line(alloc, &next, &names)?)?;

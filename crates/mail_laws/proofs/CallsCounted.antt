@@ -36,7 +36,7 @@ set_counted tellers i x h one j t e = by (cases_eq j i)
     by (inl same) = subst IsCounted (sym (set_back tellers i x t (ap (slice_get (slice_set tellers i x)) (sym same) ∙ e)).2) one
     by (inr other) = h j t (sym (set_there tellers i j x other) ∙ e)
 
-settled_counted : (due : ℕ) (ss : List Settled) (tellers : List Teller) → AreSent tellers ss → Counted tellers → Counted (settle_all due ss tellers)
+pub settled_counted : (due : ℕ) (ss : List Settled) (tellers : List Teller) → AreSent tellers ss → Counted tellers → Counted (settle_all due ss tellers)
 settled_counted due ss tellers sent h j t e = by (settle_at due ss tellers j t sent e)
   where
     by : (slice_get tellers j ≡ Some t) ⊎ Got due tellers j t → IsCounted t

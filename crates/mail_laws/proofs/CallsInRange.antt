@@ -69,7 +69,7 @@ takes_on i j n os mid rest lines between left e a b = (
   λ fit. let f = a.3 fit in let g = b.3 f.1 in (All-append OutcomeFits a.0 b.0 f.0 g.0, g.1),
 )
 
-turn_takes : (w : Program) (xs : List Note) (os : List Outcome) (lines : List AnswerLine) (z : Midst) (os' : List Outcome) (lines' : List AnswerLine) (z' : Midst)
+pub turn_takes : (w : Program) (xs : List Note) (os : List Outcome) (lines : List AnswerLine) (z : Midst) (os' : List Outcome) (lines' : List AnswerLine) (z' : Midst)
     → CallsMeet w xs os lines z os' lines' z' → Takes lines (new_calls xs) os os' lines'
 turn_takes w [] os lines z os' lines' z' h = ([], sym h.0, refl, λ fit. (All-nil OutcomeFits, subst AnswersFit (sym h.1) fit))
 turn_takes w (x ∷ xs) os lines z os' lines' z' h = by_call (λ os lines z h. turn_takes w xs os lines z os' lines' z' h) (call_in x.event) h

@@ -3,6 +3,7 @@ pub mod Astray
 pub mod BareBlocking
 pub mod BareWorlds
 pub mod Beginnings
+pub mod BegunOn
 pub mod CallsInRange
 pub mod CallsCounted
 pub mod CallsTold
@@ -35,6 +36,7 @@ pub mod StallsMet
 pub mod StoriesFix
 pub mod Tales
 pub mod ToldAreWorlds
+pub mod TurnsBegun
 pub mod TurnsFollowed
 pub mod TurnsTold
 pub mod UnreadAnswers

@@ -524,9 +524,10 @@ module _ (programs : List Program) (detaches : List Detach) (count number : ℕ)
 
 -- ---- all events
 
-pub record AllTold (begun : ℕ) (programs : List Program) (detaches : List Detach) (boxes : List (List ℕ)) (ds : List Device) (wholes : List Whole) (lines : List Line) (last : List Actor)
+pub record AllTold (begun : ℕ) (programs : List Program) (detaches : List Detach) (boxes : List (List ℕ)) (ds : List Device) (wholes : List Whole) (total : ℕ) (lines : List Line) (last : List Actor)
     (sh : Shared) : Type 0 where
   pub count : ℕ
+  pub counted : count ≡ total
   pub tellers : List Teller
   pub c : Common
   pub sizes : List ℕ
@@ -535,7 +536,7 @@ pub record AllTold (begun : ℕ) (programs : List Program) (detaches : List Deta
   pub will : ℕ → ℕ
   pub small : (j : ℕ) → will j < 2 ^ 32
   pub beside : Beside will wholes tellers last
-  shared : sh ≡ shared_by will c
+  pub shared : sh ≡ shared_by will c
   calm : Calm lines tellers
   going : Going programs tellers
 
@@ -544,10 +545,11 @@ module _ (begun : ℕ) (programs : List Program) (detaches : List Detach) (boxes
   walks : (count past number : ℕ) (before lines : List Line) (tellers : List Teller) (c : Common) (sizes : List ℕ) (will : ℕ → ℕ) (actors last : List Actor) (sh sh' : Shared)
       → number ≡ suc (begun + past) → ((j : ℕ) → will j < 2 ^ 32) → Tells begun programs detaches boxes ds past before tellers c → AllHold programs tellers c sizes → Beside will wholes tellers actors
       → Calm before tellers → Going programs tellers → sh ≡ shared_by will c → Played programs detaches number count actors sh lines last sh' → EndsAreTold programs (before ++ lines) last
-      → AllTold begun programs detaches boxes ds wholes (before ++ lines) last sh'
-  walks zero past number before lines tellers c sizes will actors last sh sh' numbered small tells holds beside calm going is h ends =
+      → (total : ℕ) → past + count ≡ total → AllTold begun programs detaches boxes ds wholes total (before ++ lines) last sh'
+  walks zero past number before lines tellers c sizes will actors last sh sh' numbered small tells holds beside calm going is h ends total all_of =
       record {
         count = past;
+        counted = omega (arith, all_of);
         tellers = tellers;
         c = c;
         sizes = sizes;
@@ -560,15 +562,15 @@ module _ (begun : ℕ) (programs : List Program) (detaches : List Detach) (boxes
         calm = subst (λ (l : List Line). Calm l tellers) (sym (ap (λ (l : List Line). before ++ l) h.0 ∙ append-nil before)) calm;
         going = going;
       }
-  walks (suc count) past number before lines tellers c sizes will actors last sh sh' numbered small tells holds beside calm going is h ends =
+  walks (suc count) past number before lines tellers c sizes will actors last sh sh' numbered small tells holds beside calm going is h ends total all_of =
       let r = event_again programs detaches (suc (begun + past)) wholes will tellers c sizes holds actors beside stories
       (awake_on programs detaches (suc count) number wholes before lines tellers c sizes will actors last sh sh' holds beside calm going h ends) small sh is h.0 h.2 h.3
       (subst (λ (n : ℕ). Plays programs detaches n actors sh h.0 h.2 h.3) numbered h.4) in
       let lines_are : before ++ lines ≡ (before ++ h.0) ++ h.1 = ap (λ (l : List Line). before ++ l) h.6 ∙ sym (append_assoc before h.0 h.1) in
-      subst (λ (l : List Line). AllTold begun programs detaches boxes ds wholes l last sh') (sym lines_are)
+      subst (λ (l : List Line). AllTold begun programs detaches boxes ds wholes total l last sh') (sym lines_are)
       (walks count (suc past) (suc number) (before ++ h.0) h.1 r.tellers' r.c' r.sizes' r.will' h.2 last h.3 sh' (omega (arith, numbered)) r.small' (before, h.0, tellers, c, tells, r.event, refl) r.holds
       r.beside' (calm_event programs detaches (suc (begun + past)) tellers c before h.0 calm r.tellers' r.c' r.event)
-      (going_event programs detaches (suc (begun + past)) tellers c h.0 going r.tellers' r.c' r.event) r.shared h.5 (subst (λ (l : List Line). EndsAreTold programs l last) lines_are ends))
+      (going_event programs detaches (suc (begun + past)) tellers c h.0 going r.tellers' r.c' r.event) r.shared h.5 (subst (λ (l : List Line). EndsAreTold programs l last) lines_are ends) total (omega (arith, all_of)))
 
 -- ---- from where programs begin
 
@@ -613,13 +615,13 @@ module _ (begun : ℕ) (programs : List Program) (detaches : List Detach) (boxes
   pub start_going : Going programs (map teller_at programs)
   start_going j w t ew et f = ap (λ (x : Teller). x.has_ended) (same_Some (teller_at w) t (sym (map_at teller_at programs j w ew) ∙ et)) ∙ f
 
-  pub world_told : AllTold begun programs detaches boxes ds (map whole_from world.actors) lines world.now world.shared
+  pub world_told : AllTold begun programs detaches boxes ds (map whole_from world.actors) world.count lines world.now world.shared
   world_told =
       walks begun programs detaches boxes ds (map whole_from world.actors) stories world.count 0 (suc begun) [] lines (map teller_at programs) (told_opening boxes ds) (map start_size programs)
       (λ (j : ℕ). 0) world.actors world.now (sharing boxes ds) world.shared (omega arith) (λ j. omega arith) (refl, refl, refl) (start_holds programs boxes ds) beside (λ j t e f. refl) start_going
-      (λ k. record { devices = ds; boxes = opens_so boxes k; tick = 0 }) world.played world.ends
+      (λ k. record { devices = ds; boxes = opens_so boxes k; tick = 0 }) world.played world.ends world.count (omega arith)
 
-  awake_now : (j : ℕ) (t : Teller) (a : Actor) → slice_get world_told.tellers j ≡ Some t → slice_get world.now j ≡ Some a → t.has_ended ≡ false → t.receive ≡ None → 0 < length a.notes
+  pub awake_now : (j : ℕ) (t : Teller) (a : Actor) → slice_get world_told.tellers j ≡ Some t → slice_get world.now j ≡ Some a → t.has_ended ≡ false → t.receive ≡ None → 0 < length a.notes
   awake_now j t a et ea unended none = by a.notes refl
     where
       by : (ns : List Note) → a.notes ≡ ns → 0 < length a.notes

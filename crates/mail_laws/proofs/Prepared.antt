@@ -127,6 +127,10 @@ pub record MetOne (t : Teller) (first now : Actor) : Type 0 where
   pub small : value < 2 ^ 32
   pub outcomes : t.met ++ pending value t.receive ++ now.outcomes ≡ first.outcomes
   pub parked : now.parked ≡ parked_of (store_behind t.told) (waits_at t)
+  pub due : now.due ≡ t.due
+  pub answers : now.answers ≡ t.answers
+  pub notes : t.told ++ now.notes ≡ first.notes
+  pub is_rest : IsRest t.has_ended t.receive now.notes
 
 -- so it is of each
 abbrev pub MetTo : List Teller → (starts now : List Actor) → Type 0
@@ -135,6 +139,7 @@ MetTo tellers starts now = (i : ℕ) (t : Teller) (a b : Actor) → slice_get te
 pub told_is_world_met : (begun : ℕ) (programs : List Program) (detaches : List Detach) (boxes : List (List ℕ)) (ds : List Device) (count : ℕ) (lines : List Line) (tellers : List Teller) (c : Common)
     → Tells begun programs detaches boxes ds count lines tellers c → AllZip HasStory programs tellers
     → (world : ProtocolWorldUpToFrom begun programs detaches boxes ds (begun + count) lines c.devices) × MetTo tellers world.actors world.now
+    × (will : ℕ → ℕ) × (world.shared ≡ shared_by will c)
 told_is_world_met begun programs detaches boxes ds count lines tellers c tells all =
     let p = prepared programs tellers all in
     let on = reaches begun programs detaches boxes ds p.wholes p.stories count p.will p.small lines tellers c p.actors tells p.fore in (
@@ -152,7 +157,9 @@ told_is_world_met begun programs detaches boxes ds count lines tellers c tells a
       λ i t a b et ea eb.
           let h = item p.wholes i (omega (arith, slice_get_within tellers i t et, p.fore.wide)) in
           let tie = p.fore.each i t h.0 b et h.1 eb in
-          record { value = p.will i; small = p.small i; outcomes = tie.outcomes ∙ sym (on.outcomes i h.0 a h.1 ea); parked = tie.parked },
+          record { value = p.will i; small = p.small i; outcomes = tie.outcomes ∙ sym (on.outcomes i h.0 a h.1 ea); parked = tie.parked; due = tie.due; answers = tie.answers; notes = tie.notes ∙ sym (on.notes i h.0 a h.1 ea); is_rest = tie.is_rest },
+      p.will,
+      refl,
     )
   where
     ends : (p : Prepared programs tellers) → EndsAreTold programs lines p.actors

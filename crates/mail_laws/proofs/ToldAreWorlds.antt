@@ -54,7 +54,7 @@ pub record Foretold (will : ℕ → ℕ) (wholes : List Whole) (tellers : List T
 
 -- ---- what a teller's standing says
 
-abbrev rest_some : (b : Bool) (o : Option Await) (rest : List Note) → IsRest b o rest → 0 < length rest → b ≡ false
+abbrev pub rest_some : (b : Bool) (o : Option Await) (rest : List Note) → IsRest b o rest → 0 < length rest → b ≡ false
 rest_some true o rest is some = let never : ⊥ = omega (arith, ap length is, some) in absurd never
 rest_some false o rest is some = refl
 
@@ -63,7 +63,7 @@ not_parked s None e = refl
 not_parked s (Some r) e = absurd cc
 
 -- who waits nowhere and hasn't ended is due
-due_then : (b : Bool) (o : Option Await) (d : ℕ) → b ≡ false → if_going b o ≡ None → if_going b (unless_waiting o d) ≡ Some d
+pub due_then : (b : Bool) (o : Option Await) (d : ℕ) → b ≡ false → if_going b o ≡ None → if_going b (unless_waiting o d) ≡ Some d
 due_then true o d e none = absurd cc
 due_then false None d e none = refl
 due_then false (Some r) d e none = absurd cc
@@ -79,19 +79,19 @@ due_says true o d e is = absurd cc
 due_says false None d e is = (refl, refl)
 due_says false (Some r) d e is = absurd cc
 
-waits_says : (b : Bool) (o : Option Await) (r : Await) → if_going b o ≡ Some r → (b ≡ false) × (o ≡ Some r)
+pub waits_says : (b : Bool) (o : Option Await) (r : Await) → if_going b o ≡ Some r → (b ≡ false) × (o ≡ Some r)
 waits_says true o r is = absurd cc
 waits_says false o r is = (refl, is)
 
 pub dues_at : (tellers : List Teller) (j : ℕ) (t : Teller) → slice_get tellers j ≡ Some t → slice_get (map due_of tellers) j ≡ Some (due_of t)
 dues_at tellers j t there = slice_get-map due_of tellers j ∙ ap (option_map due_of) there
 
-rest_of_none : (rest : List Note) (b : Bool) (o : Option Await) → b ≡ false → o ≡ None → 0 < length rest → IsRest b o rest
+pub rest_of_none : (rest : List Note) (b : Bool) (o : Option Await) → b ≡ false → o ≡ None → 0 < length rest → IsRest b o rest
 rest_of_none rest true o e f some = absurd cc
 rest_of_none rest false None e f some = some
 rest_of_none rest false (Some r) e f some = absurd cc
 
-rest_of_some : (rest : List Note) (b : Bool) (o : Option Await) (r : Await) → b ≡ false → o ≡ Some r → IsRest b o rest
+pub rest_of_some : (rest : List Note) (b : Bool) (o : Option Await) (r : Await) → b ≡ false → o ≡ Some r → IsRest b o rest
 rest_of_some rest true o r e f = absurd cc
 rest_of_some rest false None r e f = absurd cc
 rest_of_some rest false (Some q) r e f = tt
@@ -479,6 +479,7 @@ pub record Reached (begun : ℕ) (programs : List Program) (detaches : List Deta
     (sh : Shared) : Type 0 where
   pub start : List Actor
   pub outcomes : (i : ℕ) (h : Whole) (a : Actor) → slice_get wholes i ≡ Some h → slice_get start i ≡ Some a → a.outcomes ≡ h.outcomes
+  pub notes : (i : ℕ) (h : Whole) (a : Actor) → slice_get wholes i ≡ Some h → slice_get start i ≡ Some a → a.notes ≡ h.notes
   pub starts : AllZip StartsHeld programs start
   pub played : Played programs detaches (suc begun) count start (sharing boxes ds) lines actors sh
 
@@ -508,6 +509,14 @@ module _ (begun : ℕ) (programs : List Program) (detaches : List Detach) (boxes
       let w = of_map starting programs i t.0 (ap (λ (l : List Teller). slice_get l i) (sym is) ∙ t.1) in
       ap (λ (x : Teller). x.met ++ pending (will i) x.receive ++ a.outcomes) w.2 ∙ (fore.each i t.0 h a t.1 eh ea).outcomes
 
+  -- nothing was told before
+  start_notes : (will : ℕ → ℕ) (tellers : List Teller) (actors : List Actor) → tellers ≡ map starting programs → Foretold will wholes tellers actors
+      → (i : ℕ) (h : Whole) (a : Actor) → slice_get wholes i ≡ Some h → slice_get actors i ≡ Some a → a.notes ≡ h.notes
+  start_notes will tellers actors is fore i h a eh ea =
+      let t = item tellers i (omega (arith, slice_get_within actors i a ea, fore.long)) in
+      let w = of_map starting programs i t.0 (ap (λ (l : List Teller). slice_get l i) (sym is) ∙ t.1) in
+      ap (λ (x : Teller). x.told ++ a.notes) w.2 ∙ (fore.each i t.0 h a t.1 eh ea).notes
+
   opens : (will : ℕ → ℕ) (names : List (List ℕ)) → map (promised will) (map no_mail names) ≡ map empty_box names
   opens will [] = refl
   opens will (n ∷ names) = ap (λ (l : List Mailbox). empty_box n ∷ l) (opens will names)
@@ -518,6 +527,7 @@ module _ (begun : ℕ) (programs : List Program) (detaches : List Detach) (boxes
       record {
         start = actors;
         outcomes = start_outcomes will tellers actors tells.1 fore;
+        notes = start_notes will tellers actors tells.1 fore;
         starts = start will tellers actors tells.1 fore;
         played = (tells.0, refl, ap (shared_by will) tells.2 ∙ (λ k. record { devices = ds; boxes = opens will boxes k; tick = 0 }));
       }
@@ -527,6 +537,7 @@ module _ (begun : ℕ) (programs : List Program) (detaches : List Detach) (boxes
       record {
         start = on.start;
         outcomes = on.outcomes;
+        notes = on.notes;
         starts = on.starts;
         played = subst (λ (l : List Line). Played programs detaches (suc begun) (suc count) on.start (sharing boxes ds) l actors (shared_by will c)) (sym tells.6)
             (one_more programs detaches count (suc begun) (suc (begun + count)) on.start b.acts actors (sharing boxes ds) (shared_by b.will tells.3) (shared_by will c) tells.0 tells.1 (omega arith) on.played b.plays);

@@ -16,14 +16,14 @@ use Rattle.world_model.specs.World.{Program, call_in, ends_turn, is_end, turn_of
 use Rattle.host_laws.specs.Stretch.{meeting as with_more}
 use Rattle.mail_laws.specs.Mailboxes.{Midst, CallsMeet, NoteMeets, Meets, mailed}
 use Rattle.mail_laws.specs.MailWorld.{is_pause, pauses}
-use Rattle.mail_laws.specs.Told.{Await, Amid, Teller, promised, receive_of, number_of, midst_by, pending, KeepsPromises, ends_program}
+use Rattle.mail_laws.specs.Told.{Await, Amid, Teller, promised, receive_of, number_of, midst_by, pending, KeepsPromises, ends_program, Unended}
 use Rattle.mail_laws.specs.Stalling.{stalls, is_stalled}
 use Rattle.mail_laws.proofs.OpenMoves.{IsTame, Tame, NotOver, Plain, Leaves, on_it_goes, it_pauses, it_ends, Fine, CallFine, spent_is, Asks, Kind, kind, asked_with}
 use Rattle.mail_laws.proofs.Tales.{tale_stops, tale_dear, tale_goes, tale_over, unwound, Unread, then_ends, then_pauses, unread, Receives, r_stops, r_ends, r_unwinds, receives}
 use Rattle.mail_laws.proofs.CallsTold.{Awaits, Mirrors, is_chosen, is_awaited, mirror}
 use Rattle.mail_laws.specs.Replays.{wrong_in}
 use Rattle.mail_laws.proofs.KnownCalls.{CallFree}
-use Rattle.mail_laws.proofs.TurnsTold.{pause_calm, Unended, unended_on, plain_unended, free_last, plain_free, end_ends, pause_ends, call_goes_on, last_tells, still_tells, Behind, is_over, is_parked}
+use Rattle.mail_laws.proofs.TurnsTold.{pause_calm, unended_on, plain_unended, free_last, plain_free, end_ends, pause_ends, call_goes_on, last_tells, still_tells, Behind, is_over, is_parked}
 use Rattle.mail_laws.proofs.TurnsTold.{Turned, ends_for_any, Sofar, Story, end_turn, pause_turn, with_plain, with_call, receive_turn}
 
 -- ---- notes to come, which may be cut at a pause
@@ -31,16 +31,16 @@ use Rattle.mail_laws.proofs.TurnsTold.{Turned, ends_for_any, Sofar, Story, end_t
 abbrev pub Cut : List Note → List Note → Type 0
 Cut ms rest = (rest ≡ []) ⊎ (pauses ms ≡ true)
 
-note_head : (x y : Note) (xs ys : List Note) → x ∷ xs ≡ y ∷ ys → x ≡ y
+pub note_head : (x y : Note) (xs ys : List Note) → x ∷ xs ≡ y ∷ ys → x ≡ y
 note_head x y xs ys e = cc
 
-note_tail : (x y : Note) (xs ys : List Note) → x ∷ xs ≡ y ∷ ys → xs ≡ ys
+pub note_tail : (x y : Note) (xs ys : List Note) → x ∷ xs ≡ y ∷ ys → xs ≡ ys
 note_tail x y xs ys e = cc
 
-no_notes : (x : Note) (xs : List Note) → [] ≡ x ∷ xs → ⊥
+pub no_notes : (x : Note) (xs : List Note) → [] ≡ x ∷ xs → ⊥
 no_notes x xs e = cc
 
-not_both : false ≡ true → ⊥
+pub not_both : false ≡ true → ⊥
 not_both e = cc
 
 pauses_tail : (x : Note) (xs : List Note) → is_pause x.event ≡ false → pauses (x ∷ xs) ≡ true → pauses xs ≡ true
@@ -135,19 +135,19 @@ free_same w [] us lines z us' lines' z' free h = h
 free_same w (e ∷ es) us lines z us' lines' z' free h =
     free_same w es us lines z us' lines' z' free.1 (subst (λ (c : Option Call). NoteMeets w c us lines z (λ o l y. CallsMeet w es o l y us' lines' z')) free.0 h)
 
-free_past : (w : Program) (es more : List Note) (us : List Outcome) (lines : List AnswerLine) (z : Midst) (us' : List Outcome) (lines' : List AnswerLine) (z' : Midst) → CallFree es
+pub free_past : (w : Program) (es more : List Note) (us : List Outcome) (lines : List AnswerLine) (z : Midst) (us' : List Outcome) (lines' : List AnswerLine) (z' : Midst) → CallFree es
     → CallsMeet w (es ++ more) us lines z us' lines' z' → CallsMeet w more us lines z us' lines' z'
 free_past w [] more us lines z us' lines' z' free h = h
 free_past w (e ∷ es) more us lines z us' lines' z' free h =
     free_past w es more us lines z us' lines' z' free.1 (subst (λ (c : Option Call). NoteMeets w c us lines z (λ o l y. CallsMeet w (es ++ more) o l y us' lines' z')) free.0 h)
 
-outcome_head : (x y : Outcome) (xs ys : List Outcome) → x ∷ xs ≡ y ∷ ys → x ≡ y
+pub outcome_head : (x y : Outcome) (xs ys : List Outcome) → x ∷ xs ≡ y ∷ ys → x ≡ y
 outcome_head x y xs ys e = cc
 
-outcome_tail : (x y : Outcome) (xs ys : List Outcome) → x ∷ xs ≡ y ∷ ys → xs ≡ ys
+pub outcome_tail : (x y : Outcome) (xs ys : List Outcome) → x ∷ xs ≡ y ∷ ys → xs ≡ ys
 outcome_tail x y xs ys e = cc
 
-no_outcome : (x : Outcome) (xs : List Outcome) → [] ≡ x ∷ xs → ⊥
+pub no_outcome : (x : Outcome) (xs : List Outcome) → [] ≡ x ∷ xs → ⊥
 no_outcome x xs e = cc
 
 -- ---- following a turn

@@ -16,7 +16,7 @@ use Rattle.world_model.specs.World.{Program, call_in, ends_turn, is_end, unless_
 use Rattle.host_laws.specs.Stretch.{meeting as with_more}
 use Rattle.mail_laws.specs.Mailboxes.{Midst, CallsMeet, NoteMeets, Meets, mailed}
 use Rattle.mail_laws.specs.MailWorld.{is_pause}
-use Rattle.mail_laws.specs.Told.{Await, Amid, Teller, midst_by, pending, KeepsPromises, EndsOnce, ends_program}
+use Rattle.mail_laws.specs.Told.{Await, Amid, Teller, midst_by, pending, KeepsPromises, EndsOnce, Unended, ends_program}
 use Rattle.mail_laws.specs.Stalling.{stalls, note_stalls}
 use Rattle.mail_laws.proofs.OpenMoves.{IsTame, NotOver, Plain, Leaves, on_it_goes, it_pauses, it_ends, Fine, CallFine, spent_is, Asks, Kind, kind, asked_with}
 use Rattle.mail_laws.proofs.Tales.{tale, tale_stops, tale_dear, tale_goes, tale_over, unwound, Unread, then_ends, then_pauses, unread, Receives, r_stops, r_ends, r_unwinds, receives}
@@ -25,10 +25,6 @@ use Rattle.mail_laws.proofs.CallsTold.{Posted, Chosen, Awaits, choose}
 use Rattle.mail_laws.proofs.KnownCalls.{CallFree, KnownCalls, KnownNote, OneQuiet, known_more, known_then_free}
 
 -- ---- notes
-
-abbrev pub Unended : List Note → Type 0
-Unended [] = Unit {0}
-Unended (x ∷ xs) = (ends_turn x.event ≡ false) × Unended xs
 
 pub unended_on : (xs ys : List Note) → Unended xs → Unended ys → Unended (xs ++ ys)
 unended_on [] ys h k = k
@@ -53,7 +49,7 @@ ends_once [] x h e = subst (λ (b : Bool). MatchBool b (none ≡ []) (EndsOnce [
     none = []
 ends_once (y ∷ xs) x h e = subst (λ (b : Bool). MatchBool b (xs ++ x ∷ [] ≡ []) (EndsOnce (xs ++ x ∷ []))) (sym h.0) (ends_once xs x h.1 e)
 
-no_end : (e : Event) → ends_turn e ≡ false → is_end e ≡ false
+pub no_end : (e : Event) → ends_turn e ≡ false → is_end e ≡ false
 no_end (paused t u) h = absurd cc
 no_end (ended how) h = absurd cc
 no_end (called c) h = refl
@@ -373,45 +369,83 @@ module _ (w : Program) (i : ℕ) (t : Teller) (tellers : List Teller) (begin : A
 
   -- ---- on and on
 
+  -- a turn that begins with these notes, whose calls met these outcomes and sent these values
+  pub record From (part : List Note) (os : List Outcome) (m : Amid) : Type 0 where
+    pub tu : Turned
+    pub more : List Note
+    pub is : tu.turn ≡ part ++ more
+    pub later : List Outcome
+    pub met_is : tu.met ≡ os ++ later
+    pub sent : (will : ℕ → ℕ) → KeepsPromises will tu.behind.settled → KeepsPromises will m.settled
+
+  abbrev pub behind_from : (part es : List Note) (os : List Outcome) (m : Amid) → From (part ++ es) os m → From part os m
+  behind_from part es os m f = record { tu = f.tu; more = es ++ f.more; is = f.is ∙ append_assoc part es f.more; later = f.later; met_is = f.met_is; sent = f.sent }
+
+  abbrev pub behind_call : (part es : List Note) (os : List Outcome) (o : Outcome) (m m' : Amid) → ((will : ℕ → ℕ) → KeepsPromises will m'.settled → KeepsPromises will m.settled)
+      → From (part ++ es) (os ++ o ∷ []) m' → From part os m
+  behind_call part es os o m m' keeps f = record {
+    tu = f.tu;
+    more = es ++ f.more;
+    is = f.is ∙ append_assoc part es f.more;
+    later = o ∷ f.later;
+    met_is = f.met_is ∙ append_assoc os (o ∷ []) f.later;
+    sent = λ will k. keeps will (f.sent will k);
+  }
+
+  abbrev pub end_from : (part : List Note) (os : List Outcome) (lines : List AnswerLine) (m : Amid) → Sofar part os lines m → (xs : List Note) (x : Note) → Plain xs → IsTame x.event
+      → (more : List Outcome) → protocol_story w (t.met ++ (os ++ more)) ≡ t.told ++ (part ++ (xs ++ x ∷ [])) → From part os m
+  end_from part os lines m so xs x pl e more story = record { tu = end_turn part os lines m so xs x pl e more story; more = xs ++ x ∷ []; is = refl; later = []; met_is = sym (append-nil os); sent = λ will k. k }
+
+  abbrev pub pause_from : (part : List Note) (os : List Outcome) (lines : List AnswerLine) (m : Amid) → Sofar part os lines m → (x : Note) → is_pause x.event ≡ true
+      → (size n : ℕ) (u : Held) → NotOver u → size < limit → Story part os (λ (more : List Outcome). x ∷ still_tells w size n (with_more more u)) → From part os m
+  pause_from part os lines m so x e size n u no_u lt story = record { tu = pause_turn part os lines m so x e size n u no_u lt story; more = x ∷ []; is = refl; later = []; met_is = sym (append-nil os); sent = λ will k. k }
+
+  abbrev pub receive_from : (part : List Note) (os : List Outcome) (lines : List AnswerLine) (m : Amid) → Sofar part os lines m → (y z : Note) (c : Call) → y.event ≡ called c → (aw : Awaits w i c lines m)
+      → ends_turn z.event ≡ true → call_in z.event ≡ None → stalls z.event ≡ false
+      → Behind ((part ++ y ∷ []) ++ z ∷ []) os (Some aw.r) → From part os m
+  receive_from part os lines m so y z c is aw ends none calm after =
+      record { tu = receive_turn part os lines m so y z c is aw ends none calm after; more = y ∷ z ∷ []; is = append_assoc part (y ∷ []) (z ∷ []); later = []; met_is = sym (append-nil os); sent = λ will k. k }
+
   abbrev p : Rattle.wa_types.specs.Syntax.Module
   p = w.source
 
   abbrev ex : Exports
   ex = exports_of w.source
 
-  abbrev On : ℕ → Type 0
+  abbrev pub On : ℕ → Type 0
   On count = (n : ℕ) (u : Held) → NotOver u → (part : List Note) (os : List Outcome) (lines : List AnswerLine) (m : Amid) → Sofar part os lines m → count ≤ limit
-      → Story part os (λ (more : List Outcome). still_tells w count n (with_more more u)) → Turned
+      → Story part os (λ (more : List Outcome). still_tells w count n (with_more more u)) → From part os m
 
   -- a move, where its notes behind a call's lead
-  move : (count n : ℕ) → suc count ≤ limit → On count → (part : List Note) (os : List Outcome) (lines : List AnswerLine) (m : Amid) → Sofar part os lines m → (es : List Note) (u : Held) → Leaves es u
-      → Story part os (λ (more : List Outcome). es ++ still_tells w count n (with_more more u)) → Turned
+  pub move : (count n : ℕ) → suc count ≤ limit → On count → (part : List Note) (os : List Outcome) (lines : List AnswerLine) (m : Amid) → Sofar part os lines m → (es : List Note) (u : Held) → Leaves es u
+      → Story part os (λ (more : List Outcome). es ++ still_tells w count n (with_more more u)) → From part os m
   move count n le on part os lines m so es u (on_it_goes pl no_u) st =
-      on n u no_u (part ++ es) os lines m (with_plain part os lines m so es pl) (omega (arith, le))
-      (λ more. st more ∙ ap (λ (l : List Note). t.told ++ l) (sym (append_assoc part es (still_tells w count n (with_more more u)))))
+      behind_from part es os m
+      (on n u no_u (part ++ es) os lines m (with_plain part os lines m so es pl) (omega (arith, le))
+      (λ more. st more ∙ ap (λ (l : List Note). t.told ++ l) (sym (append_assoc part es (still_tells w count n (with_more more u))))))
   move count n le on part os lines m so es u (it_pauses x e is no_u) st =
-      pause_turn part os lines m so x is count n u no_u (omega (arith, le))
+      pause_from part os lines m so x is count n u no_u (omega (arith, le))
       (λ more. st more ∙ ap (λ (l : List Note). t.told ++ (part ++ (l ++ still_tells w count n (with_more more u)))) e)
   move count n le on part os lines m so es u (it_ends xs x s e pl is eu) st =
-      end_turn part os lines m so xs x pl is []
+      end_from part os lines m so xs x pl is []
       (st []
       ∙ ap (λ (l : List Note). t.told ++ (part ++ (es ++ l))) (ap (λ (h : Held). still_tells w count n (with_more [] h)) eu ∙ tale_over p ex w.plan w.steps count n s)
       ∙ ap (λ (l : List Note). t.told ++ (part ++ l)) (append-nil es ∙ e))
 
   -- no move that its steps reach for
   spent_turn : (part : List Note) (os : List Outcome) (lines : List AnswerLine) (m : Amid) → Sofar part os lines m → (h : Held) → NotOver h → (more : List Outcome) (l : List Note)
-      → protocol_story w (t.met ++ (os ++ more)) ≡ t.told ++ (part ++ l) → l ≡ unless_over w.steps (with_more more h) → Turned
+      → protocol_story w (t.met ++ (os ++ more)) ≡ t.told ++ (part ++ l) → l ≡ unless_over w.steps (with_more more h) → From part os m
   spent_turn part os lines m so h no_h more l st is =
-      end_turn part os lines m so [] (note (ended (StepsSpent w.steps)) (store_held h)) tt (refl, refl) more
+      end_from part os lines m so [] (note (ended (StepsSpent w.steps)) (store_held h)) tt (refl, refl) more
       (st ∙ ap (λ (k : List Note). t.told ++ (part ++ k)) (is ∙ spent_is w.steps more h no_h))
 
   module _ (count n : ℕ) (h : Held) (no_h : NotOver h) (part : List Note) (os : List Outcome) (lines : List AnswerLine) (m : Amid) (so : Sofar part os lines m) (le : suc count ≤ limit)
       (st : Story part os (λ (more : List Outcome). still_tells w (suc count) n (with_more more h))) (on : On count) where
-    goes_turn : (o : Turn Held Note) → Fine o → ((more : List Outcome) → protocol p ex w.plan (with_more more h) ≡ turned (with_more more) o) → Turned
+    goes_turn : (o : Turn Held Note) → Fine o → ((more : List Outcome) → protocol p ex w.plan (with_more more h) ≡ turned (with_more more) o) → From part os m
     goes_turn stops fine same = spent_turn part os lines m so h no_h [] (still_tells w (suc count) n (with_more [] h)) (st []) (tale_stops p ex w.plan w.steps count n (with_more [] h) (same []))
     goes_turn (goes k es u) fine same = by_cost (nat_lt k n) refl
       where
-        by_cost : (b : Bool) → nat_lt k n ≡ b → Turned
+        by_cost : (b : Bool) → nat_lt k n ≡ b → From part os m
         by_cost true paid =
             move count (n - suc k) le on part os lines m so es u fine
             (λ more. st more ∙ ap (λ (l : List Note). t.told ++ (part ++ l)) (tale_goes p ex w.plan w.steps count n (with_more more h) k es (with_more more u) (same more) paid))
@@ -424,21 +458,22 @@ module _ (w : Program) (i : ℕ) (t : Teller) (tellers : List Teller) (begin : A
       call = record { import = a.import; args = a.args }
 
       answer_turn : (ch : Chosen w i call lines m) → (o : Turn Held Note) → CallFine call o
-          → ((more : List Outcome) → protocol p ex w.plan (with_more (ch.o ∷ more) h) ≡ turned (with_more more) o) → Turned
+          → ((more : List Outcome) → protocol p ex w.plan (with_more (ch.o ∷ more) h) ≡ turned (with_more more) o) → From part os m
       answer_turn ch stops fine same =
           spent_turn part os lines m so h no_h (ch.o ∷ []) (still_tells w (suc count) n (with_more (ch.o ∷ []) h)) (st (ch.o ∷ []))
           (tale_stops p ex w.plan w.steps count n (with_more (ch.o ∷ []) h) (same []))
       answer_turn ch (goes k fs u) fine same = by_cost (nat_lt k n) refl
         where
-          by_cost : (b : Bool) → nat_lt k n ≡ b → Turned
+          by_cost : (b : Bool) → nat_lt k n ≡ b → From part os m
           by_cost true paid =
-              move count (n - suc k) le on (part ++ fine.0 ∷ []) (os ++ ch.o ∷ []) ch.lines' ch.m' (with_call part os lines m so fine.0 call fine.3 ch) fine.1 u fine.4
+              behind_call part (fine.0 ∷ []) os ch.o m ch.m' ch.keeps
+              (move count (n - suc k) le on (part ++ fine.0 ∷ []) (os ++ ch.o ∷ []) ch.lines' ch.m' (with_call part os lines m so fine.0 call fine.3 ch) fine.1 u fine.4
               (λ more.
               ap (λ (us : List Outcome). protocol_story w (t.met ++ us)) (append_assoc os (ch.o ∷ []) more)
               ∙ st (ch.o ∷ more)
               ∙ ap (λ (l : List Note). t.told ++ (part ++ l)) (tale_goes p ex w.plan w.steps count n (with_more (ch.o ∷ more) h) k fs (with_more more u) (same more) paid)
               ∙ ap (λ (l : List Note). t.told ++ (part ++ (l ++ still_tells w count (n - suc k) (with_more more u)))) fine.2
-              ∙ ap (λ (l : List Note). t.told ++ l) (sym (append_assoc part (fine.0 ∷ []) (fine.1 ++ still_tells w count (n - suc k) (with_more more u)))))
+              ∙ ap (λ (l : List Note). t.told ++ l) (sym (append_assoc part (fine.0 ∷ []) (fine.1 ++ still_tells w count (n - suc k) (with_more more u))))))
           by_cost false dear =
               spent_turn part os lines m so h no_h (ch.o ∷ []) (still_tells w (suc count) n (with_more (ch.o ∷ []) h)) (st (ch.o ∷ []))
               (tale_dear p ex w.plan w.steps count n (with_more (ch.o ∷ []) h) k fs (with_more [] u) (same []) dear)
@@ -450,10 +485,10 @@ module _ (w : Program) (i : ℕ) (t : Teller) (tellers : List Teller) (begin : A
       received_end : (aw : Awaits w i call lines m) (y z : Note) → y.event ≡ called call → IsTame z.event
           → still_tells w (suc count) n (with_more zero_first h) ≡ y ∷ z ∷ []
           → ((v : ℕ) (more : List Outcome) → (other : Note) × (still_tells w (suc count) n (with_more (mailed (Some (V.I32 v)) 1 ∷ more) h) ≡ y ∷ other ∷ [])
-          × (wrong_in other.event ≡ wrong_in z.event → other ≡ z)) → Turned
+          × (wrong_in other.event ≡ wrong_in z.event → other ≡ z)) → From part os m
       received_end aw y z is e tells others =
           let ends = end_ends z.event e.0 in
-          receive_turn part os lines m so y z call is aw ends.0 ends.1 e.1
+          receive_from part os lines m so y z call is aw ends.0 ends.1 e.1
           (is_over (last_tells (part ++ y ∷ []) z (unended_on part (y ∷ []) so.plain ((call_goes_on y.event call is).0, tt)) ∙ e.0) 0 (omega arith) []
           (ap (protocol_story w) (append-nil (t.met ++ os ++ zero_first) ∙ append_assoc t.met os zero_first)
           ∙ st zero_first
@@ -462,13 +497,13 @@ module _ (w : Program) (i : ℕ) (t : Teller) (tellers : List Teller) (begin : A
           (ends_for_any part os (λ (more : List Outcome). still_tells w (suc count) n (with_more more h)) st y z aw.r others))
 
       receive_by : (aw : Awaits w i call lines m)
-          → Receives p ex w.plan w.steps 0 call (λ (v : ℕ) (more : List Outcome). held_asked p ex w.plan a.k a.import a.args a.who a.l (mailed (Some (V.I32 v)) 1 ∷ more)) → Turned
+          → Receives p ex w.plan w.steps 0 call (λ (v : ℕ) (more : List Outcome). held_asked p ex w.plan a.k a.import a.args a.who a.l (mailed (Some (V.I32 v)) 1 ∷ more)) → From part os m
       receive_by aw (r_stops f) =
           spent_turn part os lines m so h no_h zero_first (still_tells w (suc count) n (with_more zero_first h)) (st zero_first)
           (tale_stops p ex w.plan w.steps count n (with_more zero_first h) (a.same zero_first ∙ f []))
       receive_by aw (r_ends k y z s is e f too) = by_cost (nat_lt k n) refl
         where
-          by_cost : (b : Bool) → nat_lt k n ≡ b → Turned
+          by_cost : (b : Bool) → nat_lt k n ≡ b → From part os m
           by_cost true paid =
               received_end aw y z is e
               (tale_goes p ex w.plan w.steps count n (with_more zero_first h) k (y ∷ z ∷ []) (over s) (a.same zero_first ∙ f []) paid
@@ -491,13 +526,13 @@ module _ (w : Program) (i : ℕ) (t : Teller) (tellers : List Teller) (begin : A
               tale_goes p ex w.plan w.steps count n (with_more (mailed (Some (V.I32 v)) 1 ∷ more) h) k (y ∷ []) (with_more more (unwound u v))
               (a.same (mailed (Some (V.I32 v)) 1 ∷ more) ∙ f v more) paid
 
-          by_unread : nat_lt k n ≡ true → Unread p ex w.plan w.steps (λ (v : ℕ) (more : List Outcome). still_tells w count (n - suc k) (with_more more (unwound u v))) count → Turned
+          by_unread : nat_lt k n ≡ true → Unread p ex w.plan w.steps (λ (v : ℕ) (more : List Outcome). still_tells w count (n - suc k) (with_more more (unwound u v))) count → From part os m
           by_unread paid (then_ends z e g) =
               received_end aw y z is e (goes_so paid 0 [] ∙ ap (λ (l : List Note). y ∷ l) (g 0 []))
               (λ v more. (z, goes_so paid v more ∙ ap (λ (l : List Note). y ∷ l) (g v more), λ q. refl))
           by_unread paid (then_pauses z r c2 n2 e no_r small g) =
               let ends = pause_ends z.event e in
-              receive_turn part os lines m so y z call is aw ends.0 ends.1 (pause_calm z.event e)
+              receive_from part os lines m so y z call is aw ends.0 ends.1 (pause_calm z.event e)
               (is_parked (last_tells (part ++ y ∷ []) z (unended_on part (y ∷ []) so.plain ((call_goes_on y.event call is).0, tt)) ∙ ends.2) aw.r refl c2 (omega (arith, small, le))
               (λ v. record {
                 h = r v;
@@ -512,30 +547,30 @@ module _ (w : Program) (i : ℕ) (t : Teller) (tellers : List Teller) (begin : A
                     ∙ sym (append_assoc t.told ((part ++ y ∷ []) ++ z ∷ []) (still_tells w c2 n2 (with_more more (r v))));
               }))
 
-          by_cost : (b : Bool) → nat_lt k n ≡ b → Turned
+          by_cost : (b : Bool) → nat_lt k n ≡ b → From part os m
           by_cost true paid = by_unread paid (unread p ex w.plan w.steps count (n - suc k) u)
           by_cost false dear =
               spent_turn part os lines m so h no_h zero_first (still_tells w (suc count) n (with_more zero_first h)) (st zero_first)
               (tale_dear p ex w.plan w.steps count n (with_more zero_first h) k (y ∷ []) (with_more [] (unwound u 0)) (a.same zero_first ∙ f 0 []) dear)
 
-      call_turn : Chosen w i call lines m ⊎ Awaits w i call lines m → Turned
+      call_turn : Chosen w i call lines m ⊎ Awaits w i call lines m → From part os m
       call_turn (inl ch) =
           let r = asked_with p ex w.plan a.k a.import a.args a.who a.l ch.o ch.tame in
           answer_turn ch r.turn r.fine (λ more. a.same (ch.o ∷ more) ∙ r.same more)
       call_turn (inr aw) = receive_by aw (receives p ex w.plan w.steps 0 a.k a.import a.args a.who a.l)
 
-    any_turn : Kind p ex w.plan (λ (more : List Outcome). protocol p ex w.plan (with_more more h)) → Turned
+    any_turn : Kind p ex w.plan (λ (more : List Outcome). protocol p ex w.plan (with_more more h)) → From part os m
     any_turn (inl g) = goes_turn g.turn g.fine g.same
     any_turn (inr a) = call_turn a (choose w i (record { import = a.import; args = a.args }) lines m)
 
-  loop : (count : ℕ) → On count
+  pub loop : (count : ℕ) → On count
   loop zero n h no_h part os lines m so le st = spent_turn part os lines m so h no_h [] (still_tells w zero n (with_more [] h)) (st []) refl
   loop (suc count) n h no_h part os lines m so le st = any_turn count n h no_h part os lines m so le st (loop count) (kind p ex w.plan h)
 
   -- from where it stands
   pub turn_from : begin.receive ≡ None → Posted tellers begin → Knows w t.met t.told limit → Turned
   turn_from none posted (it_stands s) =
-      loop limit s.n s.h s.not_over [] [] t.answers begin (nothing none posted) (omega arith) s.story
+      (loop limit s.n s.h s.not_over [] [] t.answers begin (nothing none posted) (omega arith) s.story).tu
     where
       nothing : begin.receive ≡ None → Posted tellers begin → Sofar [] [] t.answers begin
       nothing none posted = record { plain = tt; calls = λ will small keeps. (refl, refl, refl); none = none; known = (refl, refl, refl); posted = posted }

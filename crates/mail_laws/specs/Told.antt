@@ -7,7 +7,7 @@ use Rattle.wa_model.specs.declared.answers.Detach.{Detach}
 use Rattle.wa_model.specs.declared.events.End.TheVariants.{Stalled}
 use Rattle.wa_model.specs.Outside.{AnswerLine, Event, Line, ended}
 use Rattle.wa_model.specs.Plan.{Outcome}
-use Rattle.wa_model.specs.Blocking.{Note}
+use Rattle.wa_model.specs.Blocking.{Note, events_of}
 use Rattle.wa_model.specs.Behaves.{IsPrefix}
 use Rattle.world_model.specs.World.{Device, Program, answers_from, detached, due_from, ends_turn, events_with_looks, is_end, line_at, look_events, put_off}
 use Rattle.mailbox_device.specs.declared.mailbox.Settled.{Settled}
@@ -120,6 +120,11 @@ NoneDue dues = (program due : ℕ) → slice_get dues program ≡ Some (Some due
 abbrev pub EndsOnce : List Note → Type 0
 EndsOnce [] = ⊥
 EndsOnce (x ∷ xs) = MatchBool (ends_turn x.event) (xs ≡ []) (EndsOnce xs)
+
+-- no note ends a turn
+abbrev pub Unended : List Note → Type 0
+Unended [] = Unit {0}
+Unended (x ∷ xs) = (ends_turn x.event ≡ false) × Unended xs
 
 -- one of these notes is an end
 abbrev pub ends_program : List Note → Bool
@@ -246,6 +251,31 @@ Tells begun programs detaches boxes ds (suc count) lines tellers c =
     (before more : List Line) × (mid : List Teller) × (z : Common)
     × Tells begun programs detaches boxes ds count before mid z × TellsEvent programs detaches (suc (begun + count)) mid z more tellers c × (lines ≡ before ++ more)
 
+-- Behind so many whole events the program that is due with the least pair of due tick and number has told notes of its turn, and none that ends it. Its
+-- calls meet what they do whatever is promised to those that go on waiting, and those that were sent a value have got it.
+pub record TellsBeginning (begun : ℕ) (programs : List Program) (detaches : List Detach) (boxes : List (List ℕ)) (ds : List Device) (count : ℕ) (lines : List Line)
+    (tellers : List Teller) : Type 0 where
+  pub before : List Line
+  pub mid : List Teller
+  pub c : Common
+  pub whole : Tells begun programs detaches boxes ds count before mid c
+  pub i : ℕ
+  pub w : Program
+  pub t : Teller
+  pub program : slice_get programs i ≡ Some w
+  pub there : slice_get mid i ≡ Some t
+  pub next : IsLeast (map due_of mid) i t.due
+  pub turn : List Note
+  pub unended : Unended turn
+  pub met : List Outcome
+  pub answers : List AnswerLine
+  pub behind : Amid
+  pub calls : (will : ℕ → ℕ) → ((j : ℕ) → will j < 2 ^ 32) → KeepsPromises will behind.settled
+      → CallsMeet w turn (met ++ pending (will i) behind.receive) t.answers (midst_by will i (begun_amid (suc (begun + count)) detaches c)) [] answers (midst_by will i behind)
+  pub sent : AreSent mid behind.settled
+  pub made : lines ≡ before ++ map (line_at t.due i) (events_of turn)
+  pub after : tellers ≡ settle_all (suc t.due) behind.settled (slice_set mid i (having_told t turn met answers behind.receive))
+
 -- ---- stories
 
 -- what is still to be told: nothing exactly where the program has ended, and anything where it waits
@@ -295,4 +325,11 @@ abbrev pub ToldGoesOn : Type 0
 ToldGoesOn =
     (begun : ℕ) (programs : List Program) (detaches : List Detach) (boxes : List (List ℕ)) (ds : List Device) (count : ℕ) (lines : List Line) (tellers : List Teller) (c : Common)
     → Tells begun programs detaches boxes ds count lines tellers c → AllZip HasStory programs tellers
+    → (more : List Line) × (last : List Device) × (world : ProtocolWorldFrom begun programs detaches boxes ds (lines ++ more) last) × HaveMet tellers world.actors
+
+-- With the beginning of the next turn it does so too.
+abbrev pub BegunGoesOn : Type 0
+BegunGoesOn =
+    (begun : ℕ) (programs : List Program) (detaches : List Detach) (boxes : List (List ℕ)) (ds : List Device) (count : ℕ) (lines : List Line) (tellers : List Teller)
+    → TellsBeginning begun programs detaches boxes ds count lines tellers → AllZip HasStory programs tellers
     → (more : List Line) × (last : List Device) × (world : ProtocolWorldFrom begun programs detaches boxes ds (lines ++ more) last) × HaveMet tellers world.actors

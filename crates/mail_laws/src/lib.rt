@@ -52,5 +52,5 @@ pub use replay_laws::{
     journals_with_mail_fix_lines, mailboxes_fix_lines, met_outcomes_with_mail_fix_lines,
 };
 pub use stalled_laws::stalls_come_last;
-pub use told_laws::{told_turns_are_worlds, told_worlds_go_on};
+pub use told_laws::{begun_turns_go_on, told_turns_are_worlds, told_worlds_go_on};
 pub use waiting_laws::{one_is_sent_values, one_waits_for_good};

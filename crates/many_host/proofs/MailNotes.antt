@@ -16,12 +16,12 @@ use Rattle.mailbox_device.specs.Mail.{Box, empty_box, names_of}
 use Rattle.mailbox_device.proofs.Orderly.{empty_waits, orderly_empty}
 use Rattle.mail_laws.specs.Mailboxes.{CallsMeet}
 use Rattle.mail_laws.specs.MailWorld.{is_pause, parks, pauses, store_behind, told_pause}
-use Rattle.mail_laws.specs.Told.{Amid, AreSent, Await, IsLeast, IsWaiting, NotAmong, Teller, Tells, TellsTurn, begun_amid, due_of, ends_program, having_told, if_going, midst_by, parked_in, pending, settle_all, starting, tells_stall, tells_turn, waits_at}
+use Rattle.mail_laws.specs.Told.{Amid, AreSent, Await, IsLeast, IsWaiting, NotAmong, Teller, Tells, TellsTurn, Unended, begun_amid, due_of, ends_program, having_told, if_going, midst_by, parked_in, pending, settle_all, starting, tells_stall, tells_turn, waits_at}
 use Rattle.mail_laws.proofs.Grown.{HasGot, got_at, settle_out}
 use Rattle.mail_laws.proofs.GoingOn.{due_is, over_says}
 use Rattle.mail_laws.proofs.CallsTold.{AreSmall, are_sent, not_among, one_here, times_settled}
 use Rattle.mail_laws.proofs.Promises.{not_sent, still_sent}
-use Rattle.mail_laws.proofs.TurnsTold.{Unended, calls_free, ends_once, last_tells}
+use Rattle.mail_laws.proofs.TurnsTold.{calls_free, ends_once, last_tells}
 use Rattle.pause_host.specs.Mailing.{MailSupply, MetSoFar, TakesMail, amid_of}
 use Rattle.pause_host.proofs.MetSoFar.{one_more_met}
 use Rattle.many_host.specs.Notes.{GoesOn}

@@ -18,10 +18,10 @@ use Rattle.many_host.specs.Hosts.{AreResumed, AreSetUp, dues_left, follows, has_
 use Rattle.many_host.specs.Standing.{AllStart}
 use Rattle.many_host.proofs.Tellings.{all_resumed, all_start, on_story}
 
-abbrev hosted : Program → Hosted
+abbrev pub hosted : Program → Hosted
 hosted x = record { program = x }
 
-unhosted : (xs : List Program) → map (λ (x : Hosted). x.program) (map hosted xs) ≡ xs
+pub unhosted : (xs : List Program) → map (λ (x : Hosted). x.program) (map hosted xs) ≡ xs
 unhosted [] = refl
 unhosted (x ∷ xs) = ap (λ (l : List Program). x ∷ l) (unhosted xs)
 

@@ -34,3 +34,8 @@ pub mod NoneParked
 pub mod CountedNotes
 pub mod MailMeets
 pub mod MailCounting
+pub mod MailEvents
+pub mod MailPrinted
+pub mod MailTakes
+pub mod MailBegun
+pub mod MailHosted

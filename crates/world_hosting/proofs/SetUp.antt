@@ -127,6 +127,9 @@ parted_set_up ps ss x h parted =
     subst (λ (l : List Program). AreSetUp (world_programs ps) x.shows.items l) (sym parted.programs)
     (subst (λ (l : List Show). AreSetUp (world_programs ps) l (programs_of ss)) (sym parted.shows) (are_set_up ps ss h))
 
+pub parted_none_wait : (ps : List Part) (ss : List Staged) (x : Parted) → AreStaged ps ss → AreParted ss x → NoneWaits x.programs.items
+parted_none_wait ps ss x h parted = subst NoneWaits (sym parted.programs) (none_wait ps ss h)
+
 pub parted_names : (ps : List Part) (ss : List Staged) (x : Parted) → AreStaged ps ss → AreParted ss x → map names_of x.names.items ≡ map part_names ps
 parted_names ps ss x h parted = ap (map names_of) parted.names ∙ same_names ps ss h
 

@@ -5,14 +5,16 @@ use Rattle.event_order.specs.declared.shows.Show.{Show}
 use Rattle.wa_model.specs.declared.answers.Detach.{Detach}
 use Rattle.world_model.specs.World.{Device, Program}
 use Rattle.transcript.specs.declared.events.Names.{Names}
+use Rattle.mailbox_device.specs.Mail.{Mail, empty_mail}
 use Rattle.many_host.specs.Hosts.{HostToldFrom}
+use Rattle.many_host.specs.MailHosts.{HostTellsFrom}
 use Rattle.many_host.specs.declared.host.Host.{Host}
 use Rattle.script_reader.specs.declared.script.ShowText.{ShowText}
 use Rattle.world_hosting.specs.declared.hosting.Timed.{Timed}
 use Rattle.world_hosting.specs.declared.parting.Parted.{Parted}
 use Rattle.world_hosting.specs.declared.resuming.Resumed.{Resumed}
 use Rattle.world_hosting.specs.declared.staging.Staged.{Staged}
-use Rattle.world_hosting.specs.Worlds.{Part, part_names}
+use Rattle.world_hosting.specs.Worlds.{Part, part_names, world_programs}
 
 -- a line of a script that shows memory of the program of this number
 abbrev pub show_at : ℕ → ShowText → Show
@@ -50,3 +52,18 @@ pub record BeginsHosting (h : Host) (names : List Names) : Type 0 where
   pub parts : List Part
   pub detaches : List Detach
   pub begins : Begins earlier programs parts detaches h names
+
+-- The host, which begins with the first event, has told nothing yet of a world of these programs with empty mailboxes of these names, whatever its
+-- devices; and its lines have these names.
+pub record BeginsMail (parts : List Part) (detaches : List Detach) (boxes : List (List ℕ)) (h : Host) (names : List Names) : Type 0 where
+  pub told : (ds : List Device) → HostTellsFrom 0 (world_programs parts) detaches boxes ds [] h ds (empty_mail boxes)
+  pub begun : h.turns.begun ≡ 0
+  pub names_are : map names_of names ≡ map part_names parts
+
+-- So it is with some programs, and these mailboxes.
+pub record BeginsMailHosting (h : Host) (names : List Names) (mail : Mail) : Type 0 where
+  pub parts : List Part
+  pub detaches : List Detach
+  pub boxes : List (List ℕ)
+  pub begins : BeginsMail parts detaches boxes h names
+  pub empty : mail ≡ empty_mail boxes

@@ -1,11 +1,11 @@
 //! The programs of a script in a host, and the names of their lines.
 
-ghost use Rattle.std.specs.Prelude.{◌<◌, ◌≤◌, ◌^◌, ◌≡◌, ◌++◌, [], ◌∷◌, All, IfOk, List, OnOk, length, map};
+ghost use Rattle.std.specs.Prelude.{◌<◌, ◌≤◌, ◌^◌, ◌≡◌, ◌++◌, [], ◌∷◌, ℕ, All, IfOk, List, OnOk, length, map};
 ghost use Rattle.many_host.specs.Standing.{InRange};
 ghost use Rattle.snapshot_store.specs.Snapshots.{ProgramRecord};
 ghost use Rattle.world_laws.specs.Snapshots.{from_records};
 ghost use Rattle.world_hosting.specs.Continued.{AreResumedAt};
-ghost use Rattle.world_hosting.specs.Parted.{AreTimed, Begins};
+ghost use Rattle.world_hosting.specs.Parted.{AreTimed, Begins, BeginsMail};
 ghost use Rattle.world_hosting.specs.Views.{AreStaged};
 ghost use Rattle.world_hosting.specs.Worlds.{Part, world_programs};
 
@@ -42,6 +42,8 @@ pub(crate) fn host_staged<'m>(
     ensures range { IfOk result (λ h. InRange h.host.turns) }
     ensures begins { (parts : List Part) → AreStaged parts staged.entry.items
         → IfOk result (λ h. Begins 0 (world_programs parts) parts detaches.items h.host h.names.items) }
+    ensures mail { (parts : List Part) (boxes : List (List ℕ)) → AreStaged parts staged.entry.items
+        → IfOk result (λ h. BeginsMail parts detaches.items boxes h.host h.names.items) }
 {
     let Parted {
         programs,

@@ -5,6 +5,8 @@
 //! protocol world (`specs/Worlds.antt`), in which each import that a `device` line names asks the device of that line, and the devices
 //! are those that the run leaves. That each program of a script is one that can be staged is the law `scripts_fit`.
 //!
+//! `host_mail_programs` tells programs that share mailboxes besides, likewise (`specs/MailWorlds.antt`).
+//!
 //! `save_programs` tells programs up to an event and makes the snapshot that is held there (`specs/Saved.antt`).
 //!
 //! `resume_program` makes a program as its record of a snapshot has it, and `continue_programs` tells such programs from there to their
@@ -27,6 +29,7 @@
 //!
 //! - `staging`, `parting`, `hosting`, `telling`: a program made over its module, the programs parted in what hosts them and what prints
 //!   their lines, a host of them, and `host_programs`.
+//! - `mail_telling`: `host_mail_programs`.
 //! - `laws`: scripts can be staged.
 //! - `originals_told`, `told_alone`, `fault_counts`, `device_logs`, `snapshot_laws`: the laws above.
 //! - `saving`: programs told up to an event, and their snapshot.
@@ -38,6 +41,7 @@ mod device_logs;
 mod fault_counts;
 mod hosting;
 mod laws;
+mod mail_telling;
 mod originals_told;
 mod parting;
 mod resuming;
@@ -51,6 +55,7 @@ pub use continuing::continue_programs;
 pub use device_logs::{told_devices_are_logged, told_devices_with_mail_are_logged};
 pub use fault_counts::{told_faults_are_counted, told_faults_with_mail_are_counted};
 pub use laws::{scripts_fit, scripts_in_range};
+pub use mail_telling::host_mail_programs;
 pub use originals_told::{
     told_of_originals, told_programs_end_as_originals, told_with_mail_end_as_originals,
     told_with_mail_of_originals,
