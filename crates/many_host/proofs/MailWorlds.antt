@@ -1,5 +1,5 @@
 -- What a host with mailboxes has told, as a world's run.
-use Rattle.std.proofs.Common.{arith, ◌≡◌, ℕ, List, Option, Some, None, slice_get, sym, subst, ◌++◌, map, drop, append_assoc}
+use Rattle.std.proofs.Common.{arith, ◌≡◌, ℕ, List, Option, Some, None, slice_get, sym, subst, ◌++◌, map, drop, append_assoc, suc, slice_set, ap, ◌∙◌, [], ◌∷◌}
 use Rattle.std.specs.Prelude.{MatchOption}
 use Rattle.std.specs.List.{AllZip}
 use Rattle.std.proofs.lemmas.Option.{slice_get_within}
@@ -13,19 +13,23 @@ use Rattle.event_order.specs.Left.{Counted}
 use Rattle.event_order.specs.Looks.{looks_of}
 use Rattle.mailbox_device.specs.Mail.{Mail}
 use Rattle.mail_laws.specs.MailWorld.{ProtocolWorldFrom}
-use Rattle.mail_laws.specs.Told.{HasStory, HaveEnded, HaveMet, Teller}
+use Rattle.wa_model.specs.Blocking.{Note, events_of}
+use Rattle.pause_host.specs.Mailing.{amid_of}
+use Rattle.mail_laws.proofs.BegunOn.{begun_goes_on}
+use Rattle.many_host.specs.Notes.{GoesOn}
+use Rattle.mail_laws.specs.Told.{IsLeast, Unended, due_of, having_told, settle_all, HasStory, HaveEnded, HaveMet, Teller}
 use Rattle.mail_laws.proofs.GoneOn.{told_goes_on}
-use Rattle.many_host.specs.MailHosts.{HostTellsNext}
+use Rattle.many_host.specs.MailHosts.{MailHostBegins, HostTellsNext}
 use Rattle.many_host.specs.MailStanding.{AllTold, StandingFrom, TellsNext, common_of}
 use Rattle.many_host.specs.Standing.{Held, held_of, looks_at}
-use Rattle.many_host.specs.ToldMail.{MailToldBegins, MailToldWhole, BeginsMailWorld}
+use Rattle.many_host.specs.ToldMail.{MailBegunBegins, MailToldBegins, MailToldWhole, BeginsMailWorld}
 use Rattle.many_host.specs.declared.host.Host.{Host}
 use Rattle.many_host.specs.declared.hosted.Hosted.{Hosted}
 use Rattle.many_host.specs.declared.turn_taking.Stage.{Stage}
 use Rattle.many_host.specs.declared.turn_taking.Turns.{Turns}
 use Rattle.mail_laws.proofs.Prepared.{all_told_is_world}
 use Rattle.many_host.specs.Hosts.{memory_of}
-use Rattle.many_host.specs.declared.turn_taking.Stage.TheVariants.{Between, Showing}
+use Rattle.many_host.specs.declared.turn_taking.Stage.TheVariants.{Between, Showing, Telling}
 use Rattle.many_host.proofs.MailStories.{held_has_story}
 
 pub mail_told_begins : MailToldBegins
@@ -34,6 +38,36 @@ mail_told_begins begun programs detaches boxes ds es mail count last lines telle
 pub mail_told_whole : MailToldWhole
 mail_told_whole begun programs detaches boxes ds es mail count last lines tellers tells all over =
     all_told_is_world begun programs detaches boxes ds count lines tellers (common_of es mail last) tells all over
+
+unended : (xs : List Note) → GoesOn xs → Unended xs
+unended [] h = tt
+unended (x ∷ xs) h = (h.0, unended xs h.1)
+
+pub mail_begun_begins : MailBegunBegins
+mail_begun_begins begun programs detaches boxes ds count i due lines tellers now on all =
+    begun_goes_on begun programs detaches boxes ds count lines tellers
+    (record {
+      before = on.before;
+      mid = on.mid;
+      c = on.c;
+      whole = on.whole;
+      i = i;
+      w = on.w;
+      t = on.t;
+      program = on.program;
+      there = on.there;
+      next = subst (λ (n : ℕ). IsLeast (map due_of on.mid) i n) (sym on.due_is) on.next;
+      turn = on.turn;
+      unended = unended on.turn on.goes_on;
+      met = on.met;
+      answers = on.answers;
+      behind = now;
+      calls = on.calls;
+      sent = on.sent;
+      made = on.made ∙ ap (λ (n : ℕ). on.before ++ map (line_at n i) (events_of on.turn)) (sym on.due_is);
+      after = on.after ∙ ap (λ (n : ℕ). settle_all (suc n) now.settled (slice_set on.mid i (having_told on.t on.turn on.met on.answers now.receive))) (sym on.due_is);
+    })
+    all
 
 module _ (begun : ℕ) (programs : List Program) (detaches : List Detach) (boxes : List (List ℕ)) (ds : List Device) (lines : List Line) (h : Held Hosted) (last : ℕ) (ds' : List Device) (mail : Mail) where
   -- what each program of a host has told begins its story
@@ -64,7 +98,22 @@ module _ (begun : ℕ) (programs : List Program) (detaches : List Detach) (boxes
       let both = subst (λ (l : List Line). (world : ProtocolWorldFrom begun programs detaches boxes ds l run.1) × HaveMet s.tellers world.actors) (append_assoc lines rest run.0) (run.2, run.3) in
       (rest ++ run.0, run.1, both.0, both.1)
 
+  -- in the midst of a turn too
+  pub begins_telling : (turn : Turn) (s : StandingFrom begun programs detaches boxes ds lines h last ds' mail (Telling turn)) → BeginsMailWorld begun programs detaches boxes ds lines s.tellers
+  begins_telling turn s =
+      mail_begun_begins begun programs detaches boxes ds s.at.0 turn.program turn.due lines s.tellers (amid_of ds' (record mail { settled = s.at.4 }) s.at.2.receive) s.at.6 (stories_held (Telling turn) s)
+
+  -- at whatever stage
+  pub stage_begins : (stage : Stage) (s : StandingFrom begun programs detaches boxes ds lines h last ds' mail stage) → BeginsMailWorld begun programs detaches boxes ds lines s.tellers
+  stage_begins Between s = begins_between s
+  stage_begins (Telling turn) s = begins_telling turn s
+  stage_begins (Showing turn from) s = begins_showing turn from s
+
 -- ---- a host
+
+-- what it has told begins a run of the world
+pub host_begins : MailHostBegins
+host_begins begun programs detaches boxes ds lines h ds' mail s = stage_begins begun programs detaches boxes ds lines (held_of h.turns) h.turns.last ds' mail h.turns.stage s
 
 -- what it tells next
 pub host_tells_next : (begun : ℕ) (programs : List Program) (detaches : List Detach) (boxes : List (List ℕ)) (ds : List Device) (lines : List Line) (tellers : List Teller)

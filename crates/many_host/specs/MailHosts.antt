@@ -14,6 +14,7 @@ use Rattle.pause_host.specs.declared.program.Program.{Program}
 use Rattle.pause_host.specs.Programs.{receive_in}
 use Rattle.many_host.specs.MailStanding.{StandingFrom, TellsLineFrom}
 use Rattle.many_host.specs.Standing.{held_of}
+use Rattle.many_host.specs.ToldMail.{BeginsMailWorld}
 use Rattle.many_host.specs.declared.host.Host.{Host}
 
 -- none of these programs waits for a mailbox
@@ -33,3 +34,9 @@ abbrev pub HostTellsNext : (begun : ℕ) → List W.Program → List Detach → 
 HostTellsNext begun programs detaches boxes ds lines tellers old left new mail h ds' mail' result =
     MatchOption result ((world : ProtocolWorldFrom begun programs detaches boxes ds lines ds') × HaveMet tellers world.actors × (new ≡ old))
     (λ line. TellsLineFrom begun programs detaches boxes ds lines tellers left new mail (line_of line) (held_of h.turns) h.turns.last ds' mail' h.turns.stage)
+
+-- The lines that a host has told begin a run of the world, in which each program's calls meet first what they have met.
+abbrev pub MailHostBegins : Type 0
+MailHostBegins =
+    (begun : ℕ) (programs : List W.Program) (detaches : List Detach) (boxes : List (List ℕ)) (ds : List Device) (lines : List Line) (h : Host) (ds' : List Device) (mail : Mail)
+    (told : HostTellsFrom begun programs detaches boxes ds lines h ds' mail) → BeginsMailWorld begun programs detaches boxes ds lines told.tellers

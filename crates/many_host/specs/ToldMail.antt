@@ -121,6 +121,12 @@ MailToldBegins =
     (begun : ℕ) (programs : List Program) (detaches : List Detach) (boxes : List (List ℕ)) (ds es : List Device) (mail : Mail) (count last : ℕ) (lines : List Line) (tellers : List Teller)
     → Tells begun programs detaches boxes ds count lines tellers (common_of es mail last) → AllZip HasStory programs tellers → BeginsMailWorld begun programs detaches boxes ds lines tellers
 
+-- so do those with the beginning of the next turn,
+abbrev pub MailBegunBegins : Type 0
+MailBegunBegins =
+    (begun : ℕ) (programs : List Program) (detaches : List Detach) (boxes : List (List ℕ)) (ds : List Device) (count i due : ℕ) (lines : List Line) (tellers : List Teller) (now : Amid)
+    → TellsOnFrom begun programs detaches boxes ds count i due lines tellers now → AllZip HasStory programs tellers → BeginsMailWorld begun programs detaches boxes ds lines tellers
+
 -- and once all programs have ended, they are a whole run, whose calls met what the programs' calls did.
 abbrev pub MailToldWhole : Type 0
 MailToldWhole =

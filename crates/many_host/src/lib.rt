@@ -49,7 +49,7 @@ mod turn_taking;
 
 pub use event_order::Show;
 pub use host::Host;
-pub use laws::told_lines_begin_a_world;
+pub use laws::{told_lines_begin_a_world, told_lines_with_mail_begin_a_world};
 pub use pause_host::{Plan, Program};
 pub use told_mail::{
     held_programs_have_stories, notes_with_mail_are_told, told_events_are_of_a_world,
