@@ -1,5 +1,6 @@
 pub mod Answering
 pub mod Choices
+mod Declared
 pub mod Ending
 pub mod Endings
 pub mod GoingOver
