@@ -106,7 +106,7 @@ by_some (m ∷ ms) without with some h = h
 
 module _ (way : Way) (name : List ℕ) (files : Option Files) (fetched fetched' put put' : ℕ) (ds ds' : List Counted) (play : Play way files name) where
   -- the end of a call that was told so
-  Told : (status : ℕ) → (old new : Option (List ℕ)) → Type 0
+  abbrev pub Told : (status : ℕ) → (old new : Option (List ℕ)) → Type 0
   Told status old new = HasEnd (call way name files fetched fetched' put put' old new ds ds') status
 
   all_told : (text : List ℕ) → IsTold play ds ds' text → (old new : Option (List ℕ)) → Becomes old new (Appends text) → Told 0 old new

@@ -104,7 +104,7 @@ fn tell_by_mail<S: Sink>(
     requires few { length staged.items ≤ 16 }
     requires staged { (parts : List Part) × AreStaged parts staged.items }
     ensures end { (way : WayValue) (files : Option Files) (name : List ℕ) (fetched fetched' : ℕ) (play : Play way files name)
-        → AreStaged play.parts staged.entry.items → detaches_in play.whole ≡ detaches.items → play.whole.mailboxes ≡ map mailbox_of mailboxes.entry.items
+        → AreStaged play.parts staged.entry.items → detaches_in play.whole ≡ detaches.items → play.whole.mailboxes ≡ map mailbox_of mailboxes.items
         → HasEnd (call way name files fetched fetched' (S.faults out.old) (S.faults out.new) (S.taken out.old) (S.taken out.new)
         (counted seen (λ d. (⟦<dyn Device as Device>⟧ d.0).faults d.1) devices.old)
         (counted seen (λ d. (⟦<dyn Device as Device>⟧ d.0).faults d.1) devices.new)) result }
@@ -124,7 +124,7 @@ fn tell_by_mail<S: Sink>(
 
 // The names of mailboxes, in order.
 fn mailbox_names(alloc: Global, texts: Vec<MailboxText>) -> Result<Vec<Name>, AllocError>
-    ensures { IfOk result (λ names. names.items ≡ box_names (map mailbox_of texts.entry.items)) }
+    ensures { IfOk result (λ names. names.items ≡ box_names (map mailbox_of texts.items)) }
 {
     let mut names = Vec::new(alloc);
     for text in texts {
