@@ -1,5 +1,5 @@
 -- The lines of several programs with mailboxes, as they are being told and printed.
-use Rattle.std.proofs.Common.{arith, ◌≡◌, ◌≤◌, ◌+◌, inl, inr, ℕ, List, [], ◌∷◌, ◌++◌, length, length-append, map, Option, Some, None, refl, sym, ap, ◌∙◌, subst, append-nil}
+use Rattle.std.proofs.Common.{arith, ◌≡◌, ◌≤◌, ◌<◌, ◌^◌, ◌+◌, inl, inr, ℕ, List, [], ◌∷◌, ◌++◌, length, length-append, map, Option, Some, None, refl, sym, ap, ◌∙◌, subst, append-nil}
 use Rattle.std.specs.Prelude.{if◌then◌else◌, nat_eq, slice_get}
 use Rattle.std.specs.List.{AllZip}
 use Rattle.std.proofs.lemmas.List.{length-map, take_all}
@@ -56,9 +56,9 @@ known_then (o ∷ os) (u ∷ us) (v ∷ vs) h k = (one h.0 k.0, known_then os us
   where
     one : IsKnownAs o u → IsKnownAs u v → IsKnownAs o v
     one (inl e) (inl f) = inl (f ∙ e)
-    one (inl e) (inr f) = inr (sym e ∙ f.0, f.1, f.2)
-    one (inr e) (inl f) = inr (e.0, e.1, f ∙ e.2)
-    one (inr e) (inr f) = inr (e.0, f.1, f.2)
+    one (inl e) (inr f) = inr (sym e ∙ f.0, f.1, f.2, f.3)
+    one (inr e) (inl f) = inr (e.0, e.1, e.2, f ∙ e.3)
+    one (inr e) (inr f) = inr (e.0, f.1, f.2, f.3)
 
 known_on : (os us vs ws : List Outcome) → AllZip IsKnownAs os us → AllZip IsKnownAs vs ws → AllZip IsKnownAs (os ++ vs) (us ++ ws)
 known_on [] [] vs ws h k = k
@@ -67,12 +67,12 @@ known_on (o ∷ os) [] vs ws h k = absurd h
 known_on (o ∷ os) (u ∷ us) vs ws h k = (h.0, known_on os us vs ws h.1 k)
 
 -- the receive that wasn't answered is known later
-known_with : (value : ℕ) (t : Teller) → AllZip IsKnownAs (met_so_far t) (met_with value t)
-known_with value t = known_on t.met t.met (pending 0 t.receive) (pending value t.receive) (known_same t.met) (by t.receive)
+known_with : (value : ℕ) (t : Teller) → value < 2 ^ 32 → AllZip IsKnownAs (met_so_far t) (met_with value t)
+known_with value t small = known_on t.met t.met (pending 0 t.receive) (pending value t.receive) (known_same t.met) (by t.receive)
   where
     by : (r : Option Await) → AllZip IsKnownAs (pending 0 r) (pending value r)
     by None = tt
-    by (Some r) = (inr (refl, value, refl), tt)
+    by (Some r) = (inr (refl, value, small, refl), tt)
 
 -- the programs of a host have met what the lines tell, as it is known now
 abbrev pub MetKnown : List Line → (met : List (List Outcome)) → List Teller → Type 0
@@ -87,7 +87,7 @@ known_more lines met l os tellers tellers' long wide known more i t' et' =
     subst (λ (us : List Outcome). AllZip IsKnownAs us (met_so_far t')) (sym (met_more i lines met l os long))
     (subst (AllZip IsKnownAs (met_by i lines met ++ own)) (sym m.2)
     (known_on (met_by i lines met) (met_with m.0 t.0) own own
-    (known_then (met_by i lines met) (met_so_far t.0) (met_with m.0 t.0) (known i t.0 t.1) (known_with m.0 t.0)) (known_same own)))
+    (known_then (met_by i lines met) (met_so_far t.0) (met_with m.0 t.0) (known i t.0 t.1) (known_with m.0 t.0 m.1)) (known_same own)))
 
 are_known : (lines : List Line) (met : List (List Outcome)) (tellers : List Teller) (actors : List Actor) → length actors ≡ length tellers → MetKnown lines met tellers → HaveMet tellers actors
     → AreKnown lines met actors
@@ -95,7 +95,7 @@ are_known lines met tellers actors long known have i a ea =
     let t = item tellers i (omega (arith, slice_get_within actors i a ea, long)) in
     let front = have i t.0 a t.1 ea in (
       met_with front.0 t.0,
-      known_then (met_by i lines met) (met_so_far t.0) (met_with front.0 t.0) (known i t.0 t.1) (known_with front.0 t.0),
+      known_then (met_by i lines met) (met_so_far t.0) (met_with front.0 t.0) (known i t.0 t.1) (known_with front.0 t.0 front.1),
       front.2,
     )
 
