@@ -1,5 +1,5 @@
 -- The lines of several programs with mailboxes, as they are being told and printed.
-use Rattle.std.proofs.Common.{arith, ◌≡◌, ◌≤◌, ◌+◌, inl, inr, ℕ, List, [], ◌∷◌, ◌++◌, length, length-append, map, Option, Some, None, refl, sym, ap, ◌∙◌, subst, append-nil}
+use Rattle.std.proofs.Common.{arith, ◌≡◌, ◌≤◌, ◌<◌, ◌^◌, ◌+◌, inl, inr, ℕ, List, [], ◌∷◌, ◌++◌, length, length-append, map, Option, Some, None, refl, sym, ap, ◌∙◌, subst, append-nil}
 use Rattle.std.specs.Prelude.{if◌then◌else◌, nat_eq, slice_get}
 use Rattle.std.specs.List.{AllZip}
 use Rattle.std.proofs.lemmas.List.{length-map, take_all}
@@ -25,7 +25,7 @@ use Rattle.many_host.specs.declared.host.Host.{Host}
 use Rattle.many_host.specs.declared.turn_taking.Stage.{Stage}
 use Rattle.many_host.specs.declared.turn_taking.Stage.TheVariants as S
 use Rattle.many_host.specs.MailHosts.{HostTellsFrom}
-use Rattle.many_host.specs.MailStanding.{MeetMore, StandingFrom, StandsAtFrom, TellsLineFrom, met_so_far, met_with}
+use Rattle.many_host.specs.MailStanding.{MeetMore, StandsAtFrom, TellsLineFrom, met_so_far, met_with}
 use Rattle.many_host.specs.Standing.{LooksOut, held_of}
 use Rattle.many_host.specs.ToldMail.{BeginsMailWorld}
 use Rattle.transcript.specs.declared.events.Names.{Names}
@@ -33,8 +33,8 @@ use Rattle.transcript.specs.Printing as P
 use Rattle.transcript.proofs.LineTexts.{becomes_by, becomes_same, line_more, nothing_yet, then_less, then_printed}
 use Rattle.world_hosting.specs.Counts.{met_by}
 use Rattle.world_hosting.specs.MailCounts.{AreKnown, IsKnownAs, TakesBeside, TookBeside, ends_event, event_count}
-use Rattle.many_host.proofs.MailWorlds.{begins_between, begins_showing, stories_held}
-use Rattle.world_hosting.specs.MailWorlds.{AreMailBegun, BeginsMailLines, AreMailTold, TellsMail, TellsMailPart}
+use Rattle.many_host.proofs.MailWorlds.{host_begins}
+use Rattle.world_hosting.specs.MailWorlds.{AreMailBegun, AreMailTold, TellsMail, TellsMailPart}
 use Rattle.world_hosting.specs.Worlds.{IsLeft, Part, PrintsPart, part_names, world_programs}
 use Rattle.world_hosting.proofs.MailEvents.{begun_by_next, events_begun}
 use Rattle.world_hosting.proofs.MailTakes.{taken_beside}
@@ -56,9 +56,9 @@ known_then (o ∷ os) (u ∷ us) (v ∷ vs) h k = (one h.0 k.0, known_then os us
   where
     one : IsKnownAs o u → IsKnownAs u v → IsKnownAs o v
     one (inl e) (inl f) = inl (f ∙ e)
-    one (inl e) (inr f) = inr (sym e ∙ f.0, f.1, f.2)
-    one (inr e) (inl f) = inr (e.0, e.1, f ∙ e.2)
-    one (inr e) (inr f) = inr (e.0, f.1, f.2)
+    one (inl e) (inr f) = inr (sym e ∙ f.0, f.1, f.2, f.3)
+    one (inr e) (inl f) = inr (e.0, e.1, e.2, f ∙ e.3)
+    one (inr e) (inr f) = inr (e.0, f.1, f.2, f.3)
 
 known_on : (os us vs ws : List Outcome) → AllZip IsKnownAs os us → AllZip IsKnownAs vs ws → AllZip IsKnownAs (os ++ vs) (us ++ ws)
 known_on [] [] vs ws h k = k
@@ -67,12 +67,12 @@ known_on (o ∷ os) [] vs ws h k = absurd h
 known_on (o ∷ os) (u ∷ us) vs ws h k = (h.0, known_on os us vs ws h.1 k)
 
 -- the receive that wasn't answered is known later
-known_with : (value : ℕ) (t : Teller) → AllZip IsKnownAs (met_so_far t) (met_with value t)
-known_with value t = known_on t.met t.met (pending 0 t.receive) (pending value t.receive) (known_same t.met) (by t.receive)
+known_with : (value : ℕ) (t : Teller) → value < 2 ^ 32 → AllZip IsKnownAs (met_so_far t) (met_with value t)
+known_with value t small = known_on t.met t.met (pending 0 t.receive) (pending value t.receive) (known_same t.met) (by t.receive)
   where
     by : (r : Option Await) → AllZip IsKnownAs (pending 0 r) (pending value r)
     by None = tt
-    by (Some r) = (inr (refl, value, refl), tt)
+    by (Some r) = (inr (refl, value, small, refl), tt)
 
 -- the programs of a host have met what the lines tell, as it is known now
 abbrev pub MetKnown : List Line → (met : List (List Outcome)) → List Teller → Type 0
@@ -87,7 +87,7 @@ known_more lines met l os tellers tellers' long wide known more i t' et' =
     subst (λ (us : List Outcome). AllZip IsKnownAs us (met_so_far t')) (sym (met_more i lines met l os long))
     (subst (AllZip IsKnownAs (met_by i lines met ++ own)) (sym m.2)
     (known_on (met_by i lines met) (met_with m.0 t.0) own own
-    (known_then (met_by i lines met) (met_so_far t.0) (met_with m.0 t.0) (known i t.0 t.1) (known_with m.0 t.0)) (known_same own)))
+    (known_then (met_by i lines met) (met_so_far t.0) (met_with m.0 t.0) (known i t.0 t.1) (known_with m.0 t.0 m.1)) (known_same own)))
 
 are_known : (lines : List Line) (met : List (List Outcome)) (tellers : List Teller) (actors : List Actor) → length actors ≡ length tellers → MetKnown lines met tellers → HaveMet tellers actors
     → AreKnown lines met actors
@@ -95,7 +95,7 @@ are_known lines met tellers actors long known have i a ea =
     let t = item tellers i (omega (arith, slice_get_within actors i a ea, long)) in
     let front = have i t.0 a t.1 ea in (
       met_with front.0 t.0,
-      known_then (met_by i lines met) (met_so_far t.0) (met_with front.0 t.0) (known i t.0 t.1) (known_with front.0 t.0),
+      known_then (met_by i lines met) (met_so_far t.0) (met_with front.0 t.0) (known i t.0 t.1) (known_with front.0 t.0 front.1),
       front.2,
     )
 
@@ -181,8 +181,11 @@ module _ (parts : List Part) (detaches : List Detach) (boxes : List (List ℕ)) 
     [],
     inl (record {
       lines = [];
+      more = b.0;
       met = [];
-      begins = inl (b.0, b.1, b.2, λ i a ea. ([], tt, (a.outcomes, refl)));
+      last = b.1;
+      world = b.2;
+      meets = λ i a ea. ([], tt, (a.outcomes, refl));
       begun = 0;
       there = cs;
       took = (refl, refl);
@@ -197,29 +200,25 @@ module _ (parts : List Part) (detaches : List Detach) (boxes : List (List ℕ)) 
     becomes_same (PrintsPart Memory 0 []) (λ x. (0, omega arith, sym (append-nil x))) o,
   )
 
-  -- what a host has told begins a run of the world, or is in the midst of a turn
-  begins_lines : (h : Host) (now : List Counted) (mail : Mail) (t : HasMailTold h now mail) → BeginsMailLines programs detaches boxes ds t.lines t.met
-  begins_lines h now mail t = by h.turns.stage t.host t.known
-    where
-      in_world : (tellers : List Teller) → length tellers ≡ length programs → MetKnown t.lines t.met tellers → BeginsMailWorld 0 programs detaches boxes ds t.lines tellers
-          → BeginsMailLines programs detaches boxes ds t.lines t.met
-      in_world tellers wide known b = inl (b.0, b.1, b.2, are_known t.lines t.met tellers b.2.actors (zip_long StartsHeld programs b.2.actors b.2.starts ∙ sym wide) known b.3)
-
-      by : (stage : Stage) (s : StandingFrom 0 programs detaches boxes ds t.lines (held_of h.turns) h.turns.last (devices_of now) mail stage) → MetKnown t.lines t.met s.tellers
-          → BeginsMailLines programs detaches boxes ds t.lines t.met
-      by S.Between s known = in_world s.tellers s.wide known (begins_between 0 programs detaches boxes ds t.lines (held_of h.turns) h.turns.last (devices_of now) mail s)
-      by (S.Showing turn from) s known = in_world s.tellers s.wide known (begins_showing 0 programs detaches boxes ds t.lines (held_of h.turns) h.turns.last (devices_of now) mail turn from s)
-      by (S.Telling turn) s known =
-          inr (s.at.0, turn.program, turn.due, s.tellers, _, s.at.6, stories_held 0 programs detaches boxes ds t.lines (held_of h.turns) h.turns.last (devices_of now) mail (S.Telling turn) s)
+  -- what a host has told begins a run of the world
+  begins_lines : (h : Host) (now : List Counted) (mail : Mail) (t : HasMailTold h now mail)
+      → (more : List Line) × (last : List Device) × (world : ProtocolWorld programs detaches boxes ds (t.lines ++ more) last) × AreKnown t.lines t.met world.actors
+  begins_lines h now mail t =
+      let b = host_begins 0 programs detaches boxes ds t.lines h (devices_of now) mail t.host in
+      (b.0, b.1, b.2, are_known t.lines t.met t.host.tellers b.2.actors (as_wide h now mail t b.2.actors b.2.starts) t.known b.3)
 
   -- the devices are those that the lines left, or that are left when the next event begins
   are_begun : (h : Host) (now : List Counted) (mail : Mail) (t : HasMailTold h now mail) (es : List Counted) (fault : PutFault) → IsLeft fault h.turns.begun detaches now es
       → (before behind : List Line) → length behind ≤ 1 → t.lines ≡ before ++ behind → AreMailBegun fault parts detaches boxes cs es (length (begun before)) (begun t.lines)
   are_begun h now mail t es fault left before behind one parted =
+      let b = begins_lines h now mail t in
       record {
         lines = t.lines;
+        more = b.0;
         met = t.met;
-        begins = begins_lines h now mail t;
+        last = b.1;
+        world = b.2;
+        meets = b.3;
         begun = h.turns.begun;
         there = now;
         took = t.took;

@@ -1,5 +1,5 @@
 -- What lines take of the devices where there are mailboxes.
-use Rattle.std.specs.Prelude.{◌≡◌, ◌⊎◌, if◌then◌else◌, ℕ, Bool, false, true, List, [], ◌∷◌, Option, Some, None, MatchBool, MatchOption, slice_get}
+use Rattle.std.specs.Prelude.{◌≡◌, ◌<◌, ◌^◌, ◌⊎◌, if◌then◌else◌, ℕ, Bool, false, true, List, [], ◌∷◌, Option, Some, None, MatchBool, MatchOption, slice_get}
 use Rattle.std.specs.List.{AllZip, list_any}
 use Rattle.wa_types.specs.declared.values.Value.{Value}
 use Rattle.wa_types.specs.declared.values.Value.TheVariants as V
@@ -74,7 +74,7 @@ TookBeside boxes programs = TookBy ends_event (TakesBeside boxes programs)
 
 -- An outcome as it is known in the end: the same, or the answer of a receive at an empty mailbox, for which a zero stood until it was sent.
 abbrev pub IsKnownAs : Outcome → Outcome → Type 0
-IsKnownAs o o' = (o' ≡ o) ⊎ ((o ≡ mailed (Some (V.I32 0)) 1) × (value : ℕ) × (o' ≡ mailed (Some (V.I32 value)) 1))
+IsKnownAs o o' = (o' ≡ o) ⊎ ((o ≡ mailed (Some (V.I32 0)) 1) × (value : ℕ) × (value < 2 ^ 32) × (o' ≡ mailed (Some (V.I32 value)) 1))
 
 -- What is told of each program are the first outcomes that its actor's calls meet, as they are known in the end.
 abbrev pub AreKnown : List Line → (met : List (List Outcome)) → List Actor → Type 0

@@ -4,13 +4,10 @@ use Rattle.wa_model.specs.declared.answers.Detach.{Detach}
 use Rattle.wa_model.specs.Outside.{Line}
 use Rattle.wa_model.specs.Plan.{Outcome}
 use Rattle.script_model.specs.Transcript.{Transcript, event_lines}
-use Rattle.std.specs.List.{AllZip}
-use Rattle.world_model.specs.World.{Device, Program}
+use Rattle.world_model.specs.World.{Device}
 use Rattle.event_order.specs.Left.{Counted}
 use Rattle.mail_laws.specs.MailWorld.{ProtocolWorld}
-use Rattle.mail_laws.specs.Told.{Amid, HasStory, Teller}
 use Rattle.many_host.specs.Calls.{devices_of}
-use Rattle.many_host.specs.MailTurns.{TellsOnFrom}
 use Rattle.vault_port.specs.declared.whole.PutFault.{PutFault}
 use Rattle.vault_port.specs.Taken.{Appends}
 use Rattle.vault_port.specs.Told.{Becomes}
@@ -27,19 +24,15 @@ pub record AreMailTold (parts : List Part) (detaches : List Detach) (boxes : Lis
   pub took : TookBeside boxes (world_programs parts) detaches 0 0 lines met old (event_count lines) new
   pub text_is : text ≡ Transcript (map part_names parts) (length parts) (event_count lines) lines
 
--- These lines begin a run of the protocol world of these programs, whose calls meet first what theirs met; or they are lines of whole events and the
--- first of the next turn, by programs of which what each has told begins its story.
-abbrev pub BeginsMailLines : List Program → List Detach → (boxes : List (List ℕ)) → List Device → List Line → (met : List (List Outcome)) → Type 0
-BeginsMailLines programs detaches boxes ds lines met =
-    ((more : List Line) × (last : List Device) × (world : ProtocolWorld programs detaches boxes ds (lines ++ more) last) × AreKnown lines met world.actors)
-    ⊎ ((number program due : ℕ) × (tellers : List Teller) × (now : Amid) × TellsOnFrom 0 programs detaches boxes ds number program due lines tellers now × AllZip HasStory programs tellers)
-
--- It tells the first lines of one, up to some event or in the midst of a turn, and leaves the devices that are left behind these. So many of its
--- bytes are those of the lines before the last one, or of all: each line is printed before the next event begins.
+-- It tells the first lines of one, up to some event, and leaves the devices that are left behind these. So many of its bytes are those
+-- of the lines before the last one, or of all: each line is printed before the next event begins.
 pub record AreMailBegun (fault : PutFault) (parts : List Part) (detaches : List Detach) (boxes : List (List ℕ)) (old new : List Counted) (least : ℕ) (text : List ℕ) : Type 0 where
   pub lines : List Line
+  pub more : List Line
   pub met : List (List Outcome)
-  pub begins : BeginsMailLines (world_programs parts) detaches boxes (devices_of old) lines met
+  pub last : List Device
+  pub world : ProtocolWorld (world_programs parts) detaches boxes (devices_of old) (lines ++ more) last
+  pub meets : AreKnown lines met world.actors
   pub begun : ℕ
   pub there : List Counted
   pub took : TookBeside boxes (world_programs parts) detaches 0 0 lines met old begun there
