@@ -39,3 +39,6 @@ pub mod MailPrinted
 pub mod MailTakes
 pub mod MailBegun
 pub mod MailHosted
+pub mod MailAsks
+pub mod MailAsked
+pub mod MailKnown

@@ -53,7 +53,7 @@ empty_names [] = refl
 empty_names (n ∷ names) = ap (λ (ns : List (List ℕ)). n ∷ ns) (empty_names names)
 
 -- a mailbox has a name where one is found
-found_box : (name : List ℕ) (bs : List Mailbox) → is_mailbox (names_in bs) name ≡ is_some (find (is_box name) bs)
+pub found_box : (name : List ℕ) (bs : List Mailbox) → is_mailbox (names_in bs) name ≡ is_some (find (is_box name) bs)
 found_box name [] = refl
 found_box name (b ∷ bs) = by (same_name b.name name) (found_box name bs)
   where

@@ -1,5 +1,5 @@
 -- The lines of several programs with mailboxes, as they are being told and printed.
-use Rattle.std.proofs.Common.{arith, ◌≡◌, ◌≤◌, ◌<◌, ◌^◌, ◌+◌, inl, inr, ℕ, List, [], ◌∷◌, ◌++◌, length, length-append, map, Option, Some, None, refl, sym, ap, ◌∙◌, subst, append-nil}
+use Rattle.std.proofs.Common.{arith, ◌≡◌, ◌≤◌, ◌+◌, inl, inr, ℕ, List, [], ◌∷◌, ◌++◌, length, length-append, map, Option, Some, None, refl, sym, ap, ◌∙◌, subst, append-nil}
 use Rattle.std.specs.Prelude.{if◌then◌else◌, nat_eq, slice_get}
 use Rattle.std.specs.List.{AllZip}
 use Rattle.std.proofs.lemmas.List.{length-map, take_all}
@@ -12,6 +12,7 @@ use Rattle.vault_port.specs.Told.{Becomes}
 use Rattle.wa_model.specs.declared.answers.Detach.{Detach}
 use Rattle.wa_model.specs.Outside.{Line}
 use Rattle.wa_model.specs.Plan.{Outcome}
+use Rattle.wa_model.specs.Behaves.{IsPrefix}
 use Rattle.script_model.specs.Transcript as T
 use Rattle.script_model.specs.Transcript.{event_line, event_lines, last_line, names_at}
 use Rattle.world_model.specs.World.{Device, Program}
@@ -19,85 +20,34 @@ use Rattle.world_laws.proofs.Places.{item}
 use Rattle.event_order.specs.Left.{Counted}
 use Rattle.mailbox_device.specs.Mail.{Mail, empty_mail, names_of}
 use Rattle.mail_laws.specs.MailWorld.{Actor, ProtocolWorld, StartsHeld}
-use Rattle.mail_laws.specs.Told.{Await, Common, HaveMet, Teller, Tells, pending, starting}
+use Rattle.mail_laws.specs.Told.{Common, HaveMet, Teller, Tells, starting}
 use Rattle.many_host.specs.Calls.{AreLeft, BegunBy, devices_of, left_at}
 use Rattle.many_host.specs.declared.host.Host.{Host}
 use Rattle.many_host.specs.declared.turn_taking.Stage.{Stage}
 use Rattle.many_host.specs.declared.turn_taking.Stage.TheVariants as S
 use Rattle.many_host.specs.MailHosts.{HostTellsFrom}
-use Rattle.many_host.specs.MailStanding.{MeetMore, StandsAtFrom, TellsLineFrom, met_so_far, met_with}
+use Rattle.many_host.specs.MailStanding.{StandsAtFrom, TellsLineFrom, met_so_far, met_with}
 use Rattle.many_host.specs.Standing.{LooksOut, held_of}
 use Rattle.many_host.specs.ToldMail.{BeginsMailWorld}
 use Rattle.transcript.specs.declared.events.Names.{Names}
 use Rattle.transcript.specs.Printing as P
 use Rattle.transcript.proofs.LineTexts.{becomes_by, becomes_same, line_more, nothing_yet, then_less, then_printed}
 use Rattle.world_hosting.specs.Counts.{met_by}
-use Rattle.world_hosting.specs.MailCounts.{AreKnown, IsKnownAs, TakesBeside, TookBeside, ends_event, event_count}
+use Rattle.world_hosting.specs.MailCounts.{AreMet, TakesBeside, TookBeside, ends_event, event_count}
 use Rattle.many_host.proofs.MailWorlds.{host_begins}
 use Rattle.world_hosting.specs.MailWorlds.{AreMailBegun, AreMailTold, TellsMail, TellsMailPart}
 use Rattle.world_hosting.specs.Worlds.{IsLeft, Part, PrintsPart, part_names, world_programs}
+use Rattle.world_hosting.proofs.MailAsked.{AllAsked, stands_asked}
+use Rattle.world_hosting.proofs.MailKnown.{AllKnown, all_known}
 use Rattle.world_hosting.proofs.MailEvents.{begun_by_next, events_begun}
 use Rattle.world_hosting.proofs.MailTakes.{taken_beside}
 use Rattle.world_hosting.proofs.Printed.{left_there, met_more, none_left_out, part_of, took_long, took_on, zip_long}
 
 -- ---- what calls met, as it is known
 
-known_same : (os : List Outcome) → AllZip IsKnownAs os os
-known_same [] = tt
-known_same (o ∷ os) = (inl refl, known_same os)
-
-known_then : (os us vs : List Outcome) → AllZip IsKnownAs os us → AllZip IsKnownAs us vs → AllZip IsKnownAs os vs
-known_then [] [] [] h k = tt
-known_then [] [] (v ∷ vs) h k = absurd k
-known_then [] (u ∷ us) vs h k = absurd h
-known_then (o ∷ os) [] vs h k = absurd h
-known_then (o ∷ os) (u ∷ us) [] h k = absurd k
-known_then (o ∷ os) (u ∷ us) (v ∷ vs) h k = (one h.0 k.0, known_then os us vs h.1 k.1)
-  where
-    one : IsKnownAs o u → IsKnownAs u v → IsKnownAs o v
-    one (inl e) (inl f) = inl (f ∙ e)
-    one (inl e) (inr f) = inr (sym e ∙ f.0, f.1, f.2, f.3)
-    one (inr e) (inl f) = inr (e.0, e.1, e.2, f ∙ e.3)
-    one (inr e) (inr f) = inr (e.0, f.1, f.2, f.3)
-
-known_on : (os us vs ws : List Outcome) → AllZip IsKnownAs os us → AllZip IsKnownAs vs ws → AllZip IsKnownAs (os ++ vs) (us ++ ws)
-known_on [] [] vs ws h k = k
-known_on [] (u ∷ us) vs ws h k = absurd h
-known_on (o ∷ os) [] vs ws h k = absurd h
-known_on (o ∷ os) (u ∷ us) vs ws h k = (h.0, known_on os us vs ws h.1 k)
-
--- the receive that wasn't answered is known later
-known_with : (value : ℕ) (t : Teller) → value < 2 ^ 32 → AllZip IsKnownAs (met_so_far t) (met_with value t)
-known_with value t small = known_on t.met t.met (pending 0 t.receive) (pending value t.receive) (known_same t.met) (by t.receive)
-  where
-    by : (r : Option Await) → AllZip IsKnownAs (pending 0 r) (pending value r)
-    by None = tt
-    by (Some r) = (inr (refl, value, small, refl), tt)
-
 -- the programs of a host have met what the lines tell, as it is known now
-abbrev pub MetKnown : List Line → (met : List (List Outcome)) → List Teller → Type 0
-MetKnown lines met tellers = (i : ℕ) (t : Teller) → slice_get tellers i ≡ Some t → AllZip IsKnownAs (met_by i lines met) (met_so_far t)
-
-known_more : (lines : List Line) (met : List (List Outcome)) (l : Line) (os : List Outcome) (tellers tellers' : List Teller) → length met ≡ length lines → length tellers' ≡ length tellers
-    → MetKnown lines met tellers → MeetMore l.program os tellers tellers' → MetKnown (lines ++ l ∷ []) (met ++ os ∷ []) tellers'
-known_more lines met l os tellers tellers' long wide known more i t' et' =
-    let t = item tellers i (omega (arith, slice_get_within tellers' i t' et', wide)) in
-    let m = more i t.0 t' t.1 et' in
-    let own : List Outcome = if nat_eq i l.program then os else [] in
-    subst (λ (us : List Outcome). AllZip IsKnownAs us (met_so_far t')) (sym (met_more i lines met l os long))
-    (subst (AllZip IsKnownAs (met_by i lines met ++ own)) (sym m.2)
-    (known_on (met_by i lines met) (met_with m.0 t.0) own own
-    (known_then (met_by i lines met) (met_so_far t.0) (met_with m.0 t.0) (known i t.0 t.1) (known_with m.0 t.0 m.1)) (known_same own)))
-
-are_known : (lines : List Line) (met : List (List Outcome)) (tellers : List Teller) (actors : List Actor) → length actors ≡ length tellers → MetKnown lines met tellers → HaveMet tellers actors
-    → AreKnown lines met actors
-are_known lines met tellers actors long known have i a ea =
-    let t = item tellers i (omega (arith, slice_get_within actors i a ea, long)) in
-    let front = have i t.0 a t.1 ea in (
-      met_with front.0 t.0,
-      known_then (met_by i lines met) (met_so_far t.0) (met_with front.0 t.0) (known i t.0 t.1) (known_with front.0 t.0 front.1),
-      front.2,
-    )
+abbrev pub MetSoFar : List Line → (met : List (List Outcome)) → List Teller → Type 0
+MetSoFar lines met tellers = (i : ℕ) (t : Teller) → slice_get tellers i ≡ Some t → met_by i lines met ≡ met_so_far t
 
 starting_met : (programs : List Program) (i : ℕ) (t : Teller) → slice_get (map starting programs) i ≡ Some t → met_so_far t ≡ []
 starting_met programs i t at = by (slice_get programs i) (sym (slice_get-map starting programs i) ∙ at) where
@@ -126,7 +76,7 @@ module _ (parts : List Part) (detaches : List Detach) (boxes : List (List ℕ)) 
     pub host : HostTellsFrom 0 programs detaches boxes ds lines h (devices_of now) mail
     pub met : List (List Outcome)
     pub took : TookBeside boxes programs detaches 0 0 lines met cs h.turns.begun now
-    pub known : MetKnown lines met host.tellers
+    pub known : MetSoFar lines met host.tellers
 
   -- They were printed.
   pub record HasMailPrinted (h : Host) (now : List Counted) (mail : Mail) (old new : Option (List ℕ)) : Type 0 where
@@ -146,8 +96,8 @@ module _ (parts : List Part) (detaches : List Detach) (boxes : List (List ℕ)) 
   as_wide h now mail t actors starts = zip_long StartsHeld programs actors starts ∙ sym t.host.wide
 
   -- before its first line its programs have met nothing
-  none_met_yet : (h : Host) (mail : Mail) (told : HostTellsFrom 0 programs detaches boxes ds [] h ds mail) → h.turns.begun ≡ 0 → MetKnown [] [] told.tellers
-  none_met_yet h mail told none i t et = subst (AllZip IsKnownAs []) (sym (by h.turns.stage told.at)) tt
+  none_met_yet : (h : Host) (mail : Mail) (told : HostTellsFrom 0 programs detaches boxes ds [] h ds mail) → h.turns.begun ≡ 0 → MetSoFar [] [] told.tellers
+  none_met_yet h mail told none i t et = sym (by h.turns.stage told.at)
     where
       none_told : told.count ≡ 0
       none_told = let sum = told.begun_is in omega (arith, sum, none)
@@ -185,7 +135,7 @@ module _ (parts : List Part) (detaches : List Detach) (boxes : List (List ℕ)) 
       met = [];
       last = b.1;
       world = b.2;
-      meets = λ i a ea. ([], tt, (a.outcomes, refl));
+      meets = λ i a ea. (a.outcomes, refl);
       begun = 0;
       there = cs;
       took = (refl, refl);
@@ -200,28 +150,58 @@ module _ (parts : List Part) (detaches : List Detach) (boxes : List (List ℕ)) 
     becomes_same (PrintsPart Memory 0 []) (λ x. (0, omega arith, sym (append-nil x))) o,
   )
 
-  -- what a host has told begins a run of the world
-  begins_lines : (h : Host) (now : List Counted) (mail : Mail) (t : HasMailTold h now mail)
-      → (more : List Line) × (last : List Device) × (world : ProtocolWorld programs detaches boxes ds (t.lines ++ more) last) × AreKnown t.lines t.met world.actors
-  begins_lines h now mail t =
-      let b = host_begins 0 programs detaches boxes ds t.lines h (devices_of now) mail t.host in
-      (b.0, b.1, b.2, are_known t.lines t.met t.host.tellers b.2.actors (as_wide h now mail t b.2.actors b.2.starts) t.known b.3)
+  -- who waits has asked a mailbox by its last call
+  asked : (h : Host) (now : List Counted) (mail : Mail) (t : HasMailTold h now mail) → AllAsked 0 programs detaches boxes ds t.lines t.host.tellers
+  asked h now mail t = stands_asked 0 programs detaches boxes ds t.lines (held_of h.turns) h.turns.last (devices_of now) mail h.turns.stage t.host
+
+  -- What the lines' calls met and took, and the first outcomes of a world's actors.
+  record AllMet (lines : List Line) (count : ℕ) (now : List Counted) (actors : List Actor) : Type 0 where
+    pub met : List (List Outcome)
+    pub took : TookBeside boxes programs detaches 0 0 lines met cs count now
+    pub meets : AreMet lines met actors
+
+  all_met : (h : Host) (now : List Counted) (mail : Mail) (t : HasMailTold h now mail) (actors : List Actor) → AllZip StartsHeld programs actors → HaveMet t.host.tellers actors
+      → AllMet t.lines h.turns.begun now actors
+  all_met h now mail t actors starts have =
+      let k = all_known boxes programs detaches 0 0 t.lines cs h.turns.begun now t.host.tellers (asked h now mail t) Meets choice t.met t.took t.known in
+      record {
+        met = k.met;
+        took = k.took;
+        meets = λ i a ea.
+            let u = item t.host.tellers i (omega (arith, slice_get_within actors i a ea, long)) in
+            let c = k.known i u.0 u.1 in
+            subst (λ (us : List Outcome). IsPrefix us a.outcomes) (sym c.2)
+            (subst (λ (x : Actor). IsPrefix (met_with c.0 u.0) x.outcomes) (same_Some c.1.0 a (sym c.1.1 ∙ ea)) c.1.2);
+      }
+    where
+      long : length actors ≡ length t.host.tellers
+      long = as_wide h now mail t actors starts
+
+      Meets : ℕ → Teller → ℕ → Type 0
+      Meets i u v = (a : Actor) × (slice_get actors i ≡ Some a) × IsPrefix (met_with v u) a.outcomes
+
+      choice : (i : ℕ) (u : Teller) → slice_get t.host.tellers i ≡ Some u → (v : ℕ) × Meets i u v
+      choice i u e =
+          let a = item actors i (omega (arith, slice_get_within t.host.tellers i u e, long)) in
+          let front = have i u a.0 e a.1 in
+          (front.0, (a.0, a.1, front.2))
 
   -- the devices are those that the lines left, or that are left when the next event begins
   are_begun : (h : Host) (now : List Counted) (mail : Mail) (t : HasMailTold h now mail) (es : List Counted) (fault : PutFault) → IsLeft fault h.turns.begun detaches now es
       → (before behind : List Line) → length behind ≤ 1 → t.lines ≡ before ++ behind → AreMailBegun fault parts detaches boxes cs es (length (begun before)) (begun t.lines)
   are_begun h now mail t es fault left before behind one parted =
-      let b = begins_lines h now mail t in
+      let b = host_begins 0 programs detaches boxes ds t.lines h (devices_of now) mail t.host in
+      let m = all_met h now mail t b.2.actors b.2.starts b.3 in
       record {
         lines = t.lines;
         more = b.0;
-        met = t.met;
+        met = m.met;
         last = b.1;
         world = b.2;
-        meets = b.3;
+        meets = m.meets;
         begun = h.turns.begun;
         there = now;
-        took = t.took;
+        took = m.took;
         left = left;
         text_is = refl;
         before = before;
@@ -253,16 +233,40 @@ module _ (parts : List Part) (detaches : List Detach) (boxes : List (List ℕ)) 
       same_text : begun lines ++ event_line (names_at own l.program) l ≡ begun (lines ++ l ∷ [])
       same_text = ap (λ (n : List T.Names). begun lines ++ event_line (names_at n l.program) l) are ∙ line_more names lines l
 
+      abbrev own_met : ℕ → List Outcome
+      own_met i = if nat_eq i l.program then n.met else []
+
+      abbrev MetNext : ℕ → Teller → ℕ → Type 0
+      MetNext i u v = (u' : Teller) × (slice_get n.stands.tellers i ≡ Some u') × (met_so_far u' ≡ met_with v u ++ own_met i)
+
+      as_many : length n.stands.tellers ≡ length t.told.host.tellers
+      as_many = n.stands.wide ∙ sym t.told.host.wide
+
+      next_met : (i : ℕ) (u : Teller) → slice_get t.told.host.tellers i ≡ Some u → (v : ℕ) × MetNext i u v
+      next_met i u e =
+          let u' = item n.stands.tellers i (omega (arith, slice_get_within t.told.host.tellers i u e, as_many)) in
+          let m = n.meets i u u'.0 e u'.1 in
+          (m.0, (u'.0, u'.1, m.2))
+
+      abbrev known_now : AllKnown boxes programs detaches 0 0 lines cs h.turns.begun now t.told.host.tellers (asked h now mail t.told) MetNext next_met
+      known_now = all_known boxes programs detaches 0 0 lines cs h.turns.begun now t.told.host.tellers (asked h now mail t.told) MetNext next_met t.told.met t.told.took t.told.known
+
+      known_more : MetSoFar (lines ++ l ∷ []) (known_now.met ++ n.met ∷ []) n.stands.tellers
+      known_more i u' e' =
+          let u = item t.told.host.tellers i (omega (arith, slice_get_within n.stands.tellers i u' e', as_many)) in
+          let c = known_now.known i u.0 u.1 in
+          met_more i lines known_now.met l n.met (took_long ends_event (TakesBeside boxes programs) detaches 0 0 lines known_now.met cs h.turns.begun now known_now.took)
+          ∙ ap (λ (us : List Outcome). us ++ own_met i) c.2 ∙ sym c.1.2 ∙ ap met_so_far (same_Some c.1.0 u' (sym c.1.1 ∙ e'))
+
       abbrev one_more : HasMailTold next es mail'
       one_more = record {
         lines = lines ++ l ∷ [];
         host = n.stands;
-        met = t.told.met ++ n.met ∷ [];
-        took = took_on ends_event (TakesBeside boxes programs) detaches 0 0 h.turns.begun next.turns.begun lines t.told.met l n.met cs now es t.told.took
+        met = known_now.met ++ n.met ∷ [];
+        took = took_on ends_event (TakesBeside boxes programs) detaches 0 0 h.turns.begun next.turns.begun lines known_now.met l n.met cs now es known_now.took
             (begun_by_next 0 programs detaches boxes ds lines h (devices_of now) mail t.told.host next.turns.begun l.event begins)
             (taken_beside boxes programs l n.met (left_at h.turns.begun next.turns.begun detaches now) es mail mail' (boxes_named h now mail t.told) n.takes);
-        known = known_more lines t.told.met l n.met t.told.host.tellers n.stands.tellers
-            (took_long ends_event (TakesBeside boxes programs) detaches 0 0 lines t.told.met cs h.turns.begun now t.told.took) (n.stands.wide ∙ sym t.told.host.wide) t.told.known n.meets;
+        known = known_more;
       }
 
       pub mail_told_on : (new : Option (List ℕ)) → Becomes mid new (Appends (event_line (names_at own l.program) l))
@@ -299,15 +303,18 @@ module _ (parts : List Part) (detaches : List Detach) (boxes : List (List ℕ)) 
           ap (λ (n : ℕ). last_line n h.turns.begun) (sym (length-map own P.names_of) ∙ ap (λ (l : List T.Names). length l) are ∙ length-map parts part_names)
           ∙ ap (last_line (length parts)) (sym events)
 
+      all_told : AllMet lines h.turns.begun now world.actors
+      all_told = all_met h now mail t.told world.actors world.starts have
+
       abbrev are_told : AreMailTold parts detaches boxes cs es (begun lines ++ last)
       are_told = record {
         lines = lines;
-        met = t.told.met;
+        met = all_told.met;
         world = world;
-        meets = are_known lines t.told.met t.told.host.tellers world.actors (as_wide h now mail t.told world.actors world.starts) t.told.known have;
+        meets = all_told.meets;
         took =
-            subst (λ (n : ℕ). TookBeside boxes programs detaches 0 0 lines t.told.met cs n es) (sym events)
-            (subst (λ (c : List Counted). TookBeside boxes programs detaches 0 0 lines t.told.met cs h.turns.begun c) (sym kept) t.told.took);
+            subst (λ (n : ℕ). TookBeside boxes programs detaches 0 0 lines all_told.met cs n es) (sym events)
+            (subst (λ (c : List Counted). TookBeside boxes programs detaches 0 0 lines all_told.met cs h.turns.begun c) (sym kept) all_told.took);
         text_is = ap (λ (s : List ℕ). begun lines ++ s) same_last;
       }
 

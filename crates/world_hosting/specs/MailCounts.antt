@@ -1,8 +1,7 @@
 -- What lines take of the devices where there are mailboxes.
-use Rattle.std.specs.Prelude.{◌≡◌, ◌<◌, ◌^◌, ◌⊎◌, if◌then◌else◌, ℕ, Bool, false, true, List, [], ◌∷◌, Option, Some, None, MatchBool, MatchOption, slice_get}
-use Rattle.std.specs.List.{AllZip, list_any}
+use Rattle.std.specs.Prelude.{◌≡◌, ◌⊎◌, if◌then◌else◌, ℕ, Bool, false, true, List, [], ◌∷◌, Option, Some, None, MatchBool, MatchOption, slice_get}
+use Rattle.std.specs.List.{list_any}
 use Rattle.wa_types.specs.declared.values.Value.{Value}
-use Rattle.wa_types.specs.declared.values.Value.TheVariants as V
 use Rattle.wa_types.specs.Validity.{same_name}
 use Rattle.wa_model.specs.declared.answers.Detach.{Detach}
 use Rattle.wa_model.specs.declared.events.End.TheVariants.{NoDevice}
@@ -72,10 +71,6 @@ TookBeside boxes programs = TookBy ends_event (TakesBeside boxes programs)
 
 -- ---- what calls met
 
--- An outcome as it is known in the end: the same, or the answer of a receive at an empty mailbox, for which a zero stood until it was sent.
-abbrev pub IsKnownAs : Outcome → Outcome → Type 0
-IsKnownAs o o' = (o' ≡ o) ⊎ ((o ≡ mailed (Some (V.I32 0)) 1) × (value : ℕ) × (value < 2 ^ 32) × (o' ≡ mailed (Some (V.I32 value)) 1))
-
--- What is told of each program are the first outcomes that its actor's calls meet, as they are known in the end.
-abbrev pub AreKnown : List Line → (met : List (List Outcome)) → List Actor → Type 0
-AreKnown lines met actors = (i : ℕ) (a : Actor) → slice_get actors i ≡ Some a → (first : List Outcome) × AllZip IsKnownAs (met_by i lines met) first × IsPrefix first a.outcomes
+-- What is told of each program are the first outcomes that its actor's calls meet.
+abbrev pub AreMet : List Line → (met : List (List Outcome)) → List Actor → Type 0
+AreMet lines met actors = (i : ℕ) (a : Actor) → slice_get actors i ≡ Some a → IsPrefix (met_by i lines met) a.outcomes

@@ -11,16 +11,16 @@ use Rattle.many_host.specs.Calls.{devices_of}
 use Rattle.vault_port.specs.declared.whole.PutFault.{PutFault}
 use Rattle.vault_port.specs.Taken.{Appends}
 use Rattle.vault_port.specs.Told.{Becomes}
-use Rattle.world_hosting.specs.MailCounts.{AreKnown, TookBeside, event_count}
+use Rattle.world_hosting.specs.MailCounts.{AreMet, TookBeside, event_count}
 use Rattle.world_hosting.specs.Worlds.{IsLeft, Part, PrintsPart, part_names, world_programs}
 
 -- The text tells a whole run of the protocol world of these programs with mailboxes of these names, from these devices to those: its lines, and
--- the last line, which counts all events. What its calls met is what was taken of the devices, or what the mailboxes answered.
+-- the last line, which counts all events. What its calls met is what was taken of the devices, or what the mailboxes answered, be it later.
 pub record AreMailTold (parts : List Part) (detaches : List Detach) (boxes : List (List ℕ)) (old new : List Counted) (text : List ℕ) : Type 0 where
   pub lines : List Line
   pub met : List (List Outcome)
   pub world : ProtocolWorld (world_programs parts) detaches boxes (devices_of old) lines (devices_of new)
-  pub meets : AreKnown lines met world.actors
+  pub meets : AreMet lines met world.actors
   pub took : TookBeside boxes (world_programs parts) detaches 0 0 lines met old (event_count lines) new
   pub text_is : text ≡ Transcript (map part_names parts) (length parts) (event_count lines) lines
 
@@ -32,7 +32,7 @@ pub record AreMailBegun (fault : PutFault) (parts : List Part) (detaches : List 
   pub met : List (List Outcome)
   pub last : List Device
   pub world : ProtocolWorld (world_programs parts) detaches boxes (devices_of old) (lines ++ more) last
-  pub meets : AreKnown lines met world.actors
+  pub meets : AreMet lines met world.actors
   pub begun : ℕ
   pub there : List Counted
   pub took : TookBeside boxes (world_programs parts) detaches 0 0 lines met old begun there
