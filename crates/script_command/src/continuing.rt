@@ -151,8 +151,9 @@ fn continue_from<S: Sink>(
     let Opened {
         programs,
         detaches,
-        mailboxes: _,
+        mailboxes,
     } = opened;
+    drop(mailboxes);
     let Programs { modules, planned } = programs;
     let events = snapshot.events;
     match resume_all(alloc, &modules, planned, snapshot) {

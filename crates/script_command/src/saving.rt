@@ -167,8 +167,9 @@ fn play_to<S: Sink>(
     let Opened {
         programs,
         detaches,
-        mailboxes: _,
+        mailboxes,
     } = opened;
+    drop(mailboxes);
     let Programs { modules, planned } = programs;
     match stage_all(alloc, &modules, planned) {
         Ok(staged) => play_staged(alloc, out, devices, staged, detaches, most),
