@@ -332,8 +332,10 @@ module _ (boxes : List (List ℕ)) (programs : List Program) where
         (last_behind i (told_of due i p (x.event ∷ looks_after looks x x.event)) (told_of due i p (events_with_looks looks xs)) (asks_told p looks xs h))
     asks_told p looks (x ∷ xs) (inr h) =
         subst (AsksLast i) (sym (parts due i p looks x xs))
-        (inr (record { own = refl; c = h.0; call = call_told p x.event ∙ h.1; w = w; there = there; asks = h.2 },
-        no_calls_on i (told_of due i p (looks_after looks x x.event)) (told_of due i p (events_with_looks looks xs)) (after_quiet due i p i looks x x.event) (free_told due i p i looks xs h.3)))
+        (inr (
+          record { own = refl; c = h.0; call = call_told p x.event ∙ h.1; w = w; there = there; asks = h.2 },
+          no_calls_on i (told_of due i p (looks_after looks x x.event)) (told_of due i p (events_with_looks looks xs)) (after_quiet due i p i looks x x.event) (free_told due i p i looks xs h.3),
+        ))
 
 -- ---- turns
 
