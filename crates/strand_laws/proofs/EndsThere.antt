@@ -1,9 +1,10 @@
 -- Where a strand ends alone: the written module's last move, and the stores there.
+use Rattle.run_theory.proofs.TestedPokes.{passes_area}
 use Rattle.headline.specs.FlatLaw.{FlatAsks, FlatLaw, FlatNext, FlatReturns, FlatTraps}
 use Rattle.headline.specs.Halts.{room_in, used_in}
 use Rattle.headline.specs.StoreLaws.{StoreLaws}
 use Rattle.headline.specs.World.{World, WorldFits, base, setting}
-use Rattle.headline.proofs.Asks.{Called, answer_fits, by_said, first_fits, no_bad_poke, no_pause_in_start, tested_now, to_call}
+use Rattle.headline.proofs.Asks.{Called, answer_fits, by_said, first_fits, no_pause_in_start, tested_now, to_call}
 use Rattle.headline.proofs.FlatStretches.{along, other_top, pr, then_returns, then_traps, up_to, xp}
 use Rattle.headline.proofs.Reductions.{Allowed, LeftFits, Link, R, TopOf, nn, r_begins, r_between, r_halts, r_runs, seen0, sh}
 use Rattle.headline.proofs.ToldMoves.{silent_on}
@@ -144,7 +145,7 @@ module _ (w : World) (ft : WorldFits w) (sl : StoreLaws w) (L : (top spare : ℕ
         tested_now w ft sl L W G law n spare top x within task c b l is_top lk lf al k i args d is cd a os None eo ef
         ∙ ap (held_tested w.written (xp w) w.plan cd.j i args (inside task cd.at) lo a None) et
         ∙ ap (λ z. held_given cd.j y1 z (poked s1 a.pokes) lo (inside task cd.at)) told in
-        let no_bad = no_bad_poke (func_type_at (base w) i).results (length d.store.memory) w.plan (is_start task) i a ef in
+        let no_bad = passes_area (func_type_at (base w) i).results (length d.store.memory) w.plan (is_start task) i a ef in
         record {
           c1 = cd.cost;
           k1 = cd.j;
@@ -202,7 +203,7 @@ module _ (w : World) (ft : WorldFits w) (sl : StoreLaws w) (L : (top spare : ℕ
         last = mv;
         tells = refl;
         starts = refl;
-        alike = sl.poked_too 0 s s' a like (no_bad_poke (func_type_at (base w) x).results (length s.memory) w.plan true x a ef);
+        alike = sl.poked_too 0 s s' a like (passes_area (func_type_at (base w) x).results (length s.memory) w.plan true x a ef);
         good = law.poked_good x s true a good fits ef;
       }
 
@@ -225,7 +226,7 @@ module _ (w : World) (ft : WorldFits w) (sl : StoreLaws w) (L : (top spare : ℕ
         last = mv0 ∙ ap (λ z. held_given 0 (call_note x [] s' [] None) z t' (with_outcomes l os) (outermost s')) told;
         tells = refl;
         starts = refl;
-        alike = sl.poked_too 0 s s' a like (no_bad_poke (func_type_at (base w) x).results (length s.memory) w.plan true x a ef);
+        alike = sl.poked_too 0 s s' a like (passes_area (func_type_at (base w) x).results (length s.memory) w.plan true x a ef);
         good = law.poked_good x s true a good fits ef;
       }
 

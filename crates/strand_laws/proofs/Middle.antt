@@ -1,4 +1,5 @@
 -- Blocking runs over stores that differ in one area, of which they touch no byte: the moves are the same, and so are the bytes there.
+use Rattle.run_theory.proofs.TestedPokes.{passes_area}
 use Rattle.std.proofs.Common.{◌≡◌, ℕ, suc, ◌+◌, ◌≤◌, ◌<◌, List, [], ◌∷◌, ◌++◌, length, Option, Some, None, Bool, true, false, All, refl, sym, ap, ◌∙◌, subst, inl, inr, ⊎_elim, ◌⊎◌, arith}
 use Rattle.std.proofs.lemmas.Bool.{leb-true}
 use Rattle.std.specs.Option.{option_to_list}
@@ -22,7 +23,6 @@ use Rattle.wa_model.specs.Plan.{Entry, Outcome, Plan, given, refused}
 use Rattle.wa_model.specs.Step.{Next, asks, returns, step, steps, stuck, traps}
 use Rattle.wa_model.specs.Store.{Store, with_memory}
 use Rattle.wa_model.specs.Untouched.{IsCalm, StaysOff, next_ranges, ranges_in}
-use Rattle.headline.proofs.Asks.{no_bad_poke}
 use Rattle.guard_runs.proofs.Stores.{Wrote, long, neither, wrote}
 use Rattle.strand_laws.proofs.Apart.{Apart, ApartAt, Gap, NextApart, off, reduces_apart, written_too}
 use Rattle.strand_laws.specs.Strands.{PokesOff}
@@ -231,7 +231,7 @@ module _ (p : Gap) where
           ∙ ap (λ z. fault_of (func_type_at m i).results (length (store_at v).memory) plan z i a) (asker_start v v' h)
 
       passed : fault_of (func_type_at m i).results (length (store_at v).memory) plan (in_start v) i a ≡ None → bad_poke (length (store_at v).memory) plan.area a.pokes ≡ None
-      passed ef = no_bad_poke (func_type_at m i).results (length (store_at v).memory) plan (in_start v) i a ef
+      passed ef = passes_area (func_type_at m i).results (length (store_at v).memory) plan (in_start v) i a ef
 
       by_fault : (o : Option End) → fault_of (func_type_at m i).results (length (store_at v).memory) plan (in_start v) i a ≡ o
           → TurnApart p (tested m k i args v (with_outcomes l os) a o) (tested m k i args v' (with_outcomes l os) a o)

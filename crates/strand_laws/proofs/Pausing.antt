@@ -1,4 +1,5 @@
 -- A strand's move that pauses, or whose frames don't fit; with it, all that strands owe, and the joint simulation.
+use Rattle.run_theory.proofs.TestedPokes.{passes_area}
 use Rattle.headline.specs.FlatLaw.{FlatAsks, FlatLaw, FlatNext}
 use Rattle.world_model.specs.World.{ends_turn}
 use Rattle.wa_types.specs.declared.values.Trap.TheVariants.{Import, Unreachable}
@@ -7,7 +8,7 @@ use Rattle.std.proofs.lemmas.List.Elements.{All-cons, All-nil}
 use Rattle.headline.specs.Told.{answer_notes, goes_on_told}
 use Rattle.headline.specs.World.{World, WorldFits}
 use Rattle.headline.specs.WrittenRuns.{WrittenLaw}
-use Rattle.headline.proofs.Asks.{Called, no_bad_poke, to_call}
+use Rattle.headline.proofs.Asks.{Called, to_call}
 use Rattle.headline.proofs.Reductions.{Allowed, LeftFits, Link, TopOf, nb, nn, r_begins, r_between, r_halts, r_runs, sh}
 use Rattle.headline.proofs.StoresTogether.{store_laws}
 use Rattle.headline.proofs.ToldMoves.{Here, dear_of, nothing, so_far}
@@ -225,7 +226,7 @@ module _ (family : Family) (laws : FamilyLaws family) where
     ch_c = middle_chain ps (runs (an_entry e) c l) (runs (an_entry e) c' l) mid
 
     bad : bad_poke (length d.store.memory) (strand_at g i).area a.pokes ≡ None
-    bad = no_bad_poke (func_type_at (Base m) imp).results (length d.store.memory) (plan_of g (strand_at g i)) false imp a ef
+    bad = passes_area (func_type_at (Base m) imp).results (length d.store.memory) (plan_of g (strand_at g i)) false imp a ef
 
     grown : length c.store.memory ≤ length d.store.memory
     grown =

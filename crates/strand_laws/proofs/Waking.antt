@@ -1,4 +1,5 @@
 -- A strand's turn begins in both: it is answered behind a pause, or its first entry is called.
+use Rattle.run_theory.proofs.TestedPokes.{passes_area}
 use Rattle.headline.specs.FlatLaw.{FlatLaw}
 use Rattle.world_model.specs.World.{ends_turn}
 use Rattle.wa_model.specs.declared.answers.Said.{Said}
@@ -6,7 +7,7 @@ use Rattle.image_laws.proofs.Restored.{over_store}
 use Rattle.headline.specs.Told.{answer_notes}
 use Rattle.headline.specs.World.{World, WorldFits}
 use Rattle.headline.specs.WrittenRuns.{WrittenLaw}
-use Rattle.headline.proofs.Asks.{by_said, no_bad_poke}
+use Rattle.headline.proofs.Asks.{by_said}
 use Rattle.headline.proofs.FlatStretches.{Sm as SameIn, near_same}
 use Rattle.headline.proofs.Reductions.{Allowed, LeftFits, r_begins, r_between, r_halts, r_runs}
 use Rattle.headline.proofs.StoresTogether.{store_laws}
@@ -180,7 +181,7 @@ module _ (family : Family) (laws : FamilyLaws family) where
           ((both_stores family laws) i li top s s' nr) nr.good k4 told in
           let sm = nr.same in
           let bad : bad_poke (length s.memory) (strand_at g i).area a.pokes ≡ None = subst (λ n. bad_poke n (strand_at g i).area a.pokes ≡ None) (sym sm.size)
-          (no_bad_poke (func_type_at (Base m) imp).results (length s'.memory) (plan_of g (strand_at g i)) false imp a sp.passes) in
+          (passes_area (func_type_at (Base m) imp).results (length s'.memory) (plan_of g (strand_at g i)) false imp a sp.passes) in
           let pc : Chain ch.gaps (poked s a.pokes) (poked t a.pokes) =
           middle_chain ch.gaps _ _ (chain_resumed g.strands ch.gaps s t (an_entry e) d (strand_at g i).area a None lo ch.are ch.chain bad cp) in
           let x : Note = note (ended (Trapped Import)) (poked s a.pokes) in
@@ -224,7 +225,7 @@ module _ (family : Family) (laws : FamilyLaws family) where
           let task : Task = an_entry e in
           let sm = nr.same in
           let bad : bad_poke (length s.memory) (strand_at g i).area a.pokes ≡ None = subst (λ n. bad_poke n (strand_at g i).area a.pokes ≡ None) (sym sm.size)
-          (no_bad_poke (func_type_at (Base m) imp).results (length s'.memory) (plan_of g (strand_at g i)) false imp a sp.passes) in
+          (passes_area (func_type_at (Base m) imp).results (length s'.memory) (plan_of g (strand_at g i)) false imp a sp.passes) in
           let same_d : resumed d' (poked t a.pokes) (option_to_list v) ≡ resumed d (poked t a.pokes) (option_to_list v) =
           ap (λ (z : Activation). resumed (record { store = d.store; here = z; under = d'.under }) (poked t a.pokes) (option_to_list v)) eh
           ∙ ap (λ (z : List Activation). resumed (record { store = d.store; here = d.here; under = z }) (poked t a.pokes) (option_to_list v)) eu in
