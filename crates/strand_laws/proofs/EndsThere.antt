@@ -13,7 +13,7 @@ use Rattle.guard_runs.specs.Alike.{Alike}
 use Rattle.std.proofs.Common.{All, Bool, List, None, Option, Some, [], ap, false, inl, inr, length, refl, subst, suc, sym, true, zero, ℕ, ◌⊎◌, ◌*◌, ◌+◌, ◌++◌, ◌<◌, ◌∙◌, ◌∷◌, ◌≡◌, ◌≤◌}
 use Rattle.std.specs.Prelude.{if◌then◌else◌, nat_le, nat_lt, not, ◌&&◌}
 use Rattle.std.proofs.lemmas.Bool.{ltb-true}
-use Rattle.wa_model.specs.Blocking.{Left, Note, State, Task, an_entry, answers, asked, bad_pause, bad_poke, bad_value, by_step, call_note, done_notes, enter_next, enters, fault_of, go_on, import_traps, inside, is_unlisted, on_to, or_else, overlap}
+use Rattle.wa_model.specs.Blocking.{Left, Note, State, Task, an_entry, answers, asked, bad_pause, bad_poke, bad_value, by_step, call_note, done_notes, enter_next, enters, fault_of, go_on, import_traps, inside, is_unlisted, on_to, or_else, poke_fits}
 use Rattle.wa_model.specs.Blocking.{start_called, task_back, tested, halts, is_start, next_entry, note, outermost, pause_of, poked, runs, store_of, the_start, value_of_results, with_outcomes}
 use Rattle.wa_model.specs.Configuration.{Configuration, stack_of}
 use Rattle.wa_model.specs.Machine.{Leads, Turn, goes, stays, stops}
@@ -281,11 +281,11 @@ module _ (w : World) (ft : WorldFits w) (sl : StoreLaws w) (L : (top spare : ℕ
   else_stays None b h g = g
   else_stays (Some e) b h g = h
 
-  poke_stays : (n : ℕ) (area : Area) (qs : List Poke) → StaysIf (bad_poke n area qs)
-  poke_stays n area [] = tt
-  poke_stays n area (q ∷ qs) = by (nat_le (q.at + length q.bytes) n && not (overlap q.at (length q.bytes) area.at area.len)) (poke_stays n area qs)
+  poke_stays : (n : ℕ) (areas : List Area) (qs : List Poke) → StaysIf (bad_poke n areas qs)
+  poke_stays n areas [] = tt
+  poke_stays n areas (q ∷ qs) = by (poke_fits n areas q) (poke_stays n areas qs)
     where
-      by : (t : Bool) → StaysIf (bad_poke n area qs) → StaysIf (if t then bad_poke n area qs else Some (BadPoke q.at (length q.bytes)))
+      by : (t : Bool) → StaysIf (bad_poke n areas qs) → StaysIf (if t then bad_poke n areas qs else Some (BadPoke q.at (length q.bytes)))
       by true ih = ih
       by false ih = λ st. refl
 
@@ -306,7 +306,7 @@ module _ (w : World) (ft : WorldFits w) (sl : StoreLaws w) (L : (top spare : ℕ
   fault_stays : (types : List ValType) (n : ℕ) (start : Bool) (i : ℕ) (a : Answer) → StaysIf (fault_of types n w.plan start i a)
   fault_stays types n start i a =
       else_stays (bad_value types i a.said) _ (value_stays types i a.said)
-      (else_stays (bad_poke n w.plan.area a.pokes) _ (poke_stays n w.plan.area a.pokes) (pause_stays start (is_unlisted w.plan.listed i) i a.ticks))
+      (else_stays (bad_poke n (w.plan.area ∷ w.plan.others) a.pokes) _ (poke_stays n (w.plan.area ∷ w.plan.others) a.pokes) (pause_stays start (is_unlisted w.plan.listed i) i a.ticks))
 
   ended_one : (how how2 : End) → Some (ended how) ≡ Some (ended how2) → how ≡ how2
   ended_one how how2 e = cc

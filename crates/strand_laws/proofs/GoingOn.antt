@@ -43,10 +43,6 @@ over_at [] i a h e = none_is a e
 over_at (x ∷ xs) zero a h e = subst HasNone (the_same x a e) (All-head HasNone x xs h)
 over_at (x ∷ xs) (suc i) a h e = over_at xs i a (All-tail HasNone x xs h) e
 
-pub all_front : {A : Type 0} (P : A → Type 0) (xs ys : List A) → All P (xs ++ ys) → All P xs
-all_front P [] ys h = All-nil P
-all_front P (x ∷ xs) ys h = All-cons P x xs (All-head P x (xs ++ ys) h) (all_front P xs ys (All-tail P x (xs ++ ys) h))
-
 -- ---- one program that goes on
 
 -- A program whose strands still tell something: the strand that is due first among them tells first.

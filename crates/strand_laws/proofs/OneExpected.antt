@@ -61,7 +61,7 @@ module _ (st : Settings) (g : StrandProgram) (s : Strand) where
   m = Base g.source
 
   abbrev plan : Plan
-  plan = plan_of g s
+  plan = plan_of (with_one g s) s
 
   abbrev sp : Space
   sp = space_of st g.source s

@@ -82,7 +82,7 @@ module _ (g : StrandProgram) (s : Strand) where
   loom = held_loom (with_one g s)
 
   abbrev alone : Held → Turn Held Note
-  alone = protocol g.source (exports_of g.source) (plan_of g s)
+  alone = protocol g.source (exports_of g.source) (plan_of (with_one g s) s)
 
   -- the strand beside its plan's run
   data Beside : Woven Held → Held → Type 0 where
@@ -128,7 +128,7 @@ module _ (g : StrandProgram) (s : Strand) where
 
   moves_beside : (w : Woven Held) (h : Held) → Beside w h → BothGo loom alone Beside (weave loom w) (alone h)
   moves_beside _ _ (has_ended d t) = subst (λ o. BothGo loom alone Beside o stops) (sym (finished_stops loom (threads d None))) tt
-  moves_beside _ _ (goes_on d h) = by_turn (alone h) (turn_ends g.source (exports_of g.source) (plan_of g s) h)
+  moves_beside _ _ (goes_on d h) = by_turn (alone h) (turn_ends g.source (exports_of g.source) (plan_of (with_one g s) s) h)
     where
       by_turn : (o : Turn Held Note) → TurnEnds o → BothGo loom alone Beside (moved loom (held_starts h) 0 d (threads d (Some h)) o) o
       by_turn stops e = tt
@@ -139,13 +139,13 @@ module _ (g : StrandProgram) (s : Strand) where
   stands_there _ _ (has_ended d t) = subst (StandsThere (over t)) (sym (stands_none loom (threads d None))) (t, refl)
 
   abbrev from : List Outcome → Ran Held Note
-  from os = held_begun g.source.start (all_left (plan_of g s) os) (opening g.source g.globals)
+  from os = held_begun g.source.start (all_left (plan_of (with_one g s) s) os) (opening g.source g.globals)
 
   abbrev at_first : List Outcome → Ran (Woven Held) Told
   at_first os = woven loom true 0 0 (from os).events (from os).last (threads 0 (Some (from os).last))
 
   begins_so : (os : List Outcome) → HeldRan (at_first os) (from os)
-  begins_so os = moved_one true 0 (Some (from os).last) (from os).events (from os).last (begun_ends g.source.start (all_left (plan_of g s) os) (opening g.source g.globals))
+  begins_so os = moved_one true 0 (Some (from os).last) (from os).events (from os).last (begun_ends g.source.start (all_left (plan_of (with_one g s) s) os) (opening g.source g.globals))
 
   whole_run : (os : List Outcome) (n : ℕ) → RunsAsItsPlan g s os n
   whole_run os n =

@@ -150,7 +150,7 @@ module _ (w : World) (ft : WorldFits w) (sl : StoreLaws w) (L : (top spare : ℕ
       passes_now : fault_of (func_type_at (base w) i).results (length t.memory) w.plan false i a ≡ None
       passes_now = subst (λ z. fault_of (func_type_at (base w) i).results z w.plan false i a ≡ None) (sym size) sp.passes
 
-      no_bad : bad_poke (length t.memory) w.plan.area a.pokes ≡ None
+      no_bad : bad_poke (length t.memory) (w.plan.area ∷ []) a.pokes ≡ None
       no_bad = passes_area (func_type_at (base w) i).results (length t.memory) w.plan false i a passes_now
 
       back : Back w ft sl L W G law top i e a lo dt there t s'

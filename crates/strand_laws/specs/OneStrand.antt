@@ -19,8 +19,8 @@ StandsThere h (Some r) = r.at ≡ h
 
 -- Under the protocol, within a cost of n, the strand makes the notes of its plan's run, with their stores, and stands where that does.
 pub record RunsAsItsPlan (g : StrandProgram) (s : Strand) (os : List Outcome) (n : ℕ) : Type 0 where
-  pub notes : (ProtocolStrands (with_one g s) (os ∷ []) n).events ≡ told_by 0 (Protocol g.source (plan_of g s) os n).events
-  pub stands : StandsThere (Protocol g.source (plan_of g s) os n).last (standing_now (ProtocolStrands (with_one g s) (os ∷ []) n).last)
+  pub notes : (ProtocolStrands (with_one g s) (os ∷ []) n).events ≡ told_by 0 (Protocol g.source (plan_of (with_one g s) s) os n).events
+  pub stands : StandsThere (Protocol g.source (plan_of (with_one g s) s) os n).last (standing_now (ProtocolStrands (with_one g s) (os ∷ []) n).last)
 
 -- Every program with one strand does, for all outcomes and costs.
 abbrev pub OneStrandRuns : Type 0
@@ -30,4 +30,4 @@ OneStrandRuns = (g : StrandProgram) (s : Strand) (os : List Outcome) (n : ℕ) �
 abbrev pub OneStrandIsExpected : Type 0
 OneStrandIsExpected =
     (st : Settings) (g : StrandProgram) (s : Strand) (os : List Outcome) (n : ℕ)
-    → (BlockingStrands st (with_one g s) (os ∷ []) n).events ≡ told_by 0 (expected_notes g.source st (plan_of g s) os n)
+    → (BlockingStrands st (with_one g s) (os ∷ []) n).events ≡ told_by 0 (expected_notes g.source st (plan_of (with_one g s) s) os n)
