@@ -91,7 +91,6 @@ words_same g area s least ins =
 off_area : (a n at len : ℕ) → 0 < n → overlap a n at len ≡ false → (len ≡ 0) ⊎ ((a + n ≤ at) ⊎ (at + len ≤ a))
 off_area a n at len pos e = grind arith
 
-
 nothing_written : (m : List ℕ) (a : ℕ) (piece : List ℕ) → length piece ≡ 0 → overwritten m a piece ≡ m
 nothing_written m a [] e = by (take-append-drop a m)
   where

@@ -93,7 +93,9 @@ fn bad_poke(size: u64, area: Area, others: &[Area], pokes: &[Poke]) -> Option<En
 fn first_bad<'p>(size: u64, area: Area, others: &[Area], pokes: &'p [Poke]) -> Option<&'p Poke>
     ensures { option_copied result ≡ find (λ poke. not (poke_fits size (area ∷ others.now) (poke_of poke))) pokes.now }
 {
-    pokes.iter().find(|poke| !poke_fits(size, area, others, poke))
+    pokes
+        .iter()
+        .find(|poke| !poke_fits(size, area, others, poke))
 }
 
 // Whether a poke lies inside a memory of this size, off the area and off the others.
