@@ -1,6 +1,6 @@
 -- Blocking runs over stores that differ in one area, of which they touch no byte: the moves are the same, and so are the bytes there.
 use Rattle.run_theory.proofs.TestedPokes.{first_fits, fits_inside, fits_off, pokes_pass}
-use Rattle.std.proofs.Common.{◌≡◌, ℕ, suc, ◌+◌, ◌≤◌, ◌<◌, List, [], ◌∷◌, ◌++◌, length, Option, Some, None, Bool, true, false, All, refl, sym, ap, ◌∙◌, subst, inl, inr, ⊎_elim, ◌⊎◌, arith}
+use Rattle.std.proofs.Common.{◌≡◌, ℕ, ◌+◌, ◌≤◌, List, [], ◌∷◌, ◌++◌, length, Option, Some, None, Bool, true, false, refl, sym, ap, ◌∙◌, subst, inl, inr, ⊎_elim, arith}
 use Rattle.std.specs.Option.{option_to_list}
 use Rattle.std.specs.Prelude.{if◌then◌else◌, nat_lt, map}
 use Rattle.wa_types.specs.declared.values.Value.{Value}

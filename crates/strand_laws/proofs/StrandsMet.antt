@@ -19,7 +19,7 @@ use Rattle.strand_laws.proofs.TurnsTold.{told_ready}
 use Rattle.strand_laws.proofs.WorldTurns.{ready_lt}
 use Rattle.strand_laws.specs.StrandWorld.{HeldStrands, StrandsInWorld, notes_of, strand_actors, strand_unless_over}
 use Rattle.strand_laws.specs.StrandsMet.{HaveOutcomes, StrandStoriesOfMet, met_of}
-use Rattle.strand_laws.specs.Strands.{ProtocolStrands, Strand, outcomes_at}
+use Rattle.strand_laws.specs.Strands.{ProtocolStrands, outcomes_at}
 use Rattle.strand_laws.specs.Weaving.{all_due}
 use Rattle.strand_laws.specs.Woven.{Ready, Told, Woven, standing_now}
 

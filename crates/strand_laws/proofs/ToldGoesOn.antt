@@ -1,5 +1,5 @@
 -- Told worlds of strands go on, turn by turn, as long as stories are.
-use Rattle.std.proofs.Common.{arith, ◌≡◌, ◌<◌, ◌≤◌, ◌⊎◌, inl, inr, ℕ, zero, suc, ◌+◌, List, [], ◌∷◌, ◌++◌, length, All, Some, Bool, true, false, refl, sym, ap, ◌∙◌, subst, append_assoc, append-nil}
+use Rattle.std.proofs.Common.{arith, ◌≡◌, ◌<◌, ◌≤◌, ◌⊎◌, inl, inr, ℕ, zero, suc, ◌+◌, List, [], ◌∷◌, ◌++◌, length, Some, Bool, true, false, refl, sym, ap, ◌∙◌, subst, append_assoc, append-nil}
 use Rattle.std.proofs.Common.{length-append, eq-eqb, ne_eqb}
 use Rattle.std.specs.Prelude.{map, nat_eq, slice_get, slice_set, if◌then◌else◌}
 use Rattle.std.specs.List.{AllZip}

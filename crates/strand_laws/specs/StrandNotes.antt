@@ -1,5 +1,5 @@
 -- A world of strands as it is told, note by note: so many whole turns, and the beginning of the next.
-use Rattle.std.specs.Prelude.{◌≡◌, ℕ, suc, List, [], ◌∷◌, ◌++◌, map, All, Some, Bool, true, false, slice_get, slice_set}
+use Rattle.std.specs.Prelude.{◌≡◌, ℕ, suc, List, [], ◌∷◌, ◌++◌, map, Some, Bool, true, false, slice_get, slice_set}
 use Rattle.std.specs.List.{AllZip}
 use Rattle.wa_model.specs.declared.answers.Detach.{Detach}
 use Rattle.wa_model.specs.Outside.{AnswerLine}
