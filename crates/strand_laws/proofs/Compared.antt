@@ -1,7 +1,7 @@
 -- The strands of the written module behave like those of its original, for all that is compared.
 use Rattle.headline.specs.World.{World}
 use Rattle.headline.proofs.FromOpenings.{StartFits}
-use Rattle.std.proofs.Common.{All, Bool, List, None, Option, Some, [], ap, arith, false, length, refl, subst, suc, true, ℕ, ◌+◌, ◌*◌, ◌<◌, ◌∷◌, ◌≡◌, ◌≤◌}
+use Rattle.std.proofs.Common.{All, Bool, List, None, Option, Some, [], arith, false, length, refl, subst, suc, true, ℕ, ◌*◌, ◌∷◌, ◌≡◌, ◌≤◌}
 use Rattle.std.specs.Prelude.{map, nat_lt, replicate}
 use Rattle.wa_model.specs.Instantiation.{Opening, Piece, all_values, byte_piece, bytes_checked, elem_piece, elems_checked, fails_as, first_out, least_of, opened_by, opening, opens}
 use Rattle.wa_model.specs.Plan.{Fits, Outcome, OutcomeFits}

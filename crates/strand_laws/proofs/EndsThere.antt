@@ -11,7 +11,7 @@ use Rattle.headline.proofs.ToldMoves.{silent_on}
 use Rattle.headline.proofs.TrapStores.{trap_keeps}
 use Rattle.guard_runs.specs.Alike.{Alike}
 use Rattle.std.proofs.Common.{All, Bool, List, None, Option, Some, [], ap, false, inl, inr, length, refl, subst, suc, sym, true, zero, ℕ, ◌⊎◌, ◌*◌, ◌+◌, ◌++◌, ◌<◌, ◌∙◌, ◌∷◌, ◌≡◌, ◌≤◌}
-use Rattle.std.specs.Prelude.{if◌then◌else◌, nat_le, nat_lt, not, ◌&&◌}
+use Rattle.std.specs.Prelude.{if◌then◌else◌, nat_lt}
 use Rattle.std.proofs.lemmas.Bool.{ltb-true}
 use Rattle.wa_model.specs.Blocking.{Left, Note, State, Task, an_entry, answers, asked, bad_pause, bad_poke, bad_value, by_step, call_note, done_notes, enter_next, enters, fault_of, go_on, import_traps, inside, is_unlisted, on_to, or_else, poke_fits}
 use Rattle.wa_model.specs.Blocking.{start_called, task_back, tested, halts, is_start, next_entry, note, outermost, pause_of, poked, runs, store_of, the_start, value_of_results, with_outcomes}

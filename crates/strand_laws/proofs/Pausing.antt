@@ -28,7 +28,6 @@ use Rattle.wa_model.specs.Step.{Next, asks, step, steps}
 use Rattle.wa_model.specs.Store.{Store}
 use Rattle.wa_model.specs.Untouched.{IsCalm}
 use Rattle.wa_model.specs.declared.answers.Said.TheVariants as SV
-use Rattle.wa_model.specs.declared.answers.Area.{Area}
 use Rattle.wa_model.specs.declared.events.End.{End}
 use Rattle.wa_model.specs.declared.events.End.TheVariants.{Trapped, UnwindTrap}
 use Rattle.wa_types.specs.Base.{Base}
