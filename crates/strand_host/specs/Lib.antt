@@ -1,0 +1,5 @@
+pub mod Standing
+pub mod StrandMoves
+pub mod StrandPlans
+pub mod StrandPrograms
+pub mod StrandTelling
