@@ -30,8 +30,8 @@ use Rattle.strand_laws.proofs.Turns.{compared_there, turns_there}
 use Rattle.strand_laws.proofs.TwoActors.{gone_on, one_turn}
 use Rattle.strand_laws.specs.Example.{notes_of_three, outcomes_of_three, said_after, three_strands}
 use Rattle.strand_laws.specs.StrandOriginals.{LooksOff, StrandsBounded, StrandsMayRun, StrandsOrderly, StrandsStandIn}
-use Rattle.strand_laws.specs.StrandWorld.{BlockingStrandWorld, IsFinished, Staged, StrandOriginal, answers_of, areas_but, last_strand, looks_if, notes_of, strand_actors, strand_programs, StrungStrands, whole}
-use Rattle.strand_laws.specs.Strands.{BlockingStrands, PokesOff, areas_of, outcomes_at, plan_of, strand_at}
+use Rattle.strand_laws.specs.StrandWorld.{BlockingStrandWorld, IsFinished, Staged, StrandOriginal, answers_of, last_strand, looks_if, notes_of, strand_actors, strand_programs, StrungStrands, whole}
+use Rattle.strand_laws.specs.Strands.{BlockingStrands, areas_of, outcomes_at, plan_of, strand_at}
 use Rattle.strand_laws.specs.WorldExample.{EmittedTellsItsLines, ThreeTellAll, lines_of_three, three_over}
 use Rattle.strand_laws.specs.Woven.{Told, notes_told}
 
@@ -150,11 +150,6 @@ gone i = gone_on (paused_there i) [] []
 abbrev EndsNow : Actor → Type 0
 EndsNow a = a.notes ≡ []
 
-no_poke : (areas : List Area) (said : Said) (ticks : ℕ) → All (PokesOff areas) (said_after ticks said)
-no_poke areas said ticks =
-    All-cons (PokesOff areas) (given (record { said = said; pokes = []; ticks = ticks })) []
-    (All-nil (λ (p : Poke). All (λ (x : Area). overlap p.at (length p.bytes) x.at x.len ≡ false) areas)) (All-nil (PokesOff areas))
-
 abbrev staged : Staged
 staged = record { programs = strand_programs there.program (last_strand told) 0 three_strands.strands; actors = strand_actors there.program told 0 outcomes_of_three }
 
@@ -172,7 +167,6 @@ blocking_there = record {
       outcomes = outcomes_of_three;
       told = told;
       wide = refl;
-      pokes = (no_poke (areas_but 0 0 three_strands.strands) (S.Value (Some (V.I32 42))) 5, (no_poke (areas_but 1 0 three_strands.strands) (S.Value (Some (V.I32 1))) 3, (no_poke (areas_but 2 0 three_strands.strands) S.Trap 4, tt)));
       tells = tells_there;
       programs_are = refl;
       actors_are = refl;
