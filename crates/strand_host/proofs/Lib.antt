@@ -1,1 +1,3 @@
 pub mod StoresKept
+pub mod Rows
+pub mod Events
