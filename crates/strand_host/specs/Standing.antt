@@ -3,12 +3,12 @@ use Rattle.std.specs.Prelude.{◌≡◌, ℕ, suc, ◌+◌, ◌-◌, ◌*◌, �
 use Rattle.wa_types.specs.Syntax.{Module}
 use Rattle.wa_model.specs.declared.events.End.{End}
 use Rattle.wa_model.specs.declared.events.End.TheVariants.{StepsSpent, Trapped}
-use Rattle.wa_model.specs.Blocking.{Note, all_left, no_store, note}
+use Rattle.wa_model.specs.Blocking.{Note, all_left, is_start, no_store, note}
 use Rattle.wa_model.specs.Instantiation.{opening}
 use Rattle.wa_model.specs.Machine.{Leads, Ran, goes}
 use Rattle.wa_model.specs.Outside.{AnswerLine, Event, ended, paused}
 use Rattle.wa_model.specs.Plan.{Outcome, Plan}
-use Rattle.wa_model.specs.Protocol.{Held, Then, call_again, calling, exports_of, free, held_begun, over, protocol, store_held}
+use Rattle.wa_model.specs.Protocol.{Held, Phase, Then, busy, call_again, calling, entering, exports_of, free, held_begun, is_running, over, protocol, starting as starting_at, store_held}
 use Rattle.wa_model.specs.Store.{Store}
 use Rattle.world_model.specs.World.{ends_turn, is_end}
 use Rattle.host_laws.specs.Stretch.{IsSpent, Stretch, is_over, meeting}
@@ -101,6 +101,18 @@ AreWaiting (x ∷ xs) h = MatchBool (ends_turn x.event) ((xs ≡ []) × (is_end 
 
 -- ---- how a strand goes on
 
+-- a phase of the start function
+abbrev pub is_start_phase : Phase → Bool
+is_start_phase (is_running task) = is_start task
+is_start_phase _ = false
+
+-- the start function is still to be called, or runs
+abbrev pub is_in_start : Held → Bool
+is_in_start (starting_at f s l) = true
+is_in_start (busy ph c l) = is_start_phase ph
+is_in_start (entering ph e s l) = is_start_phase ph
+is_in_start _ = false
+
 -- Moves that make no note, and then one that makes these: it begins in the start function or not.
 pub record LastMove (p : Module) (plan : Plan) (h : Held) (os : List Outcome) (made : List Note) (used : ℕ) (h' : Held) (in_start : Bool) : Type 0 where
   pub at : Held
@@ -121,7 +133,7 @@ pub data GoesSo (p : Module) (plan : Plan) (in_start : Bool) (ready : List Note)
   -- no note is made: those that are ready stay
   as_before : made ≡ [] → Stretch p plan h os made used h' → GoesSo p plan in_start ready h os made used h' in_start
   -- behind the start function it stays
-  behind_start : in_start ≡ false → held_starts h ≡ false → Stretch p plan h os made used h' → GoesSo p plan in_start ready h os made used h' false
+  behind_start : in_start ≡ false → is_in_start h ≡ false → Stretch p plan h os made used h' → GoesSo p plan in_start ready h os made used h' false
   -- one move makes the notes, from a place that is known
   by_last_move : (starts : Bool) → LastMove p plan h os made used h' starts → GoesSo p plan in_start ready h os made used h' starts
   -- it doesn't matter: the last of the notes is no trap

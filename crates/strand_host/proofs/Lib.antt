@@ -1,0 +1,3 @@
+pub mod StandingGoes
+pub mod StandingMoves
+pub mod StandingWoven
