@@ -1,3 +1,4 @@
 pub mod StandingGoes
 pub mod StandingMoves
+pub mod StandingThreads
 pub mod StandingWoven
