@@ -6,7 +6,7 @@ use Rattle.wa_model.specs.Outside.{Event, answered, called, ended, parked, pause
 use Rattle.wa_model.specs.declared.events.End.{End}
 use Rattle.wa_model.specs.declared.events.End.TheVariants as E
 use Rattle.wa_model.specs.Blocking.{Note}
-use Rattle.wa_model.specs.Protocol.{Held, aside, busy, calling, entering, exports_of, free, over, protocol, starting}
+use Rattle.wa_model.specs.Protocol.{Held, store_held}
 use Rattle.wa_model.specs.Store.{Store}
 use Rattle.run_theory.proofs.Runs.{leads_on, leads_stopped}
 use Rattle.world_model.specs.World.{ends_turn, is_end}
@@ -37,13 +37,13 @@ no_ends_nil xs h = subst NoEnds (sym (append-nil xs)) h
 
 pub no_ends_waiting : (xs : List Note) (h : Held) → NoEnds xs → AreWaiting xs h
 no_ends_waiting [] h n = tt
-no_ends_waiting (x ∷ xs) h n = subst (λ b. MatchBool b ((xs ≡ []) × (is_end x.event ≡ true) × (is_over h ≡ true)) (AreWaiting xs h)) (sym n.0) (no_ends_waiting xs h n.1)
+no_ends_waiting (x ∷ xs) h n = subst (λ b. MatchBool b ((xs ≡ []) × (is_end x.event ≡ true) × (is_over h ≡ true) × (x.store ≡ store_held h)) (AreWaiting xs h)) (sym n.0) (no_ends_waiting xs h n.1)
 
 pub waiting_open : (xs : List Note) (h : Held) → AreWaiting xs h → is_over h ≡ false → NoEnds xs
 waiting_open [] h w e = tt
 waiting_open (x ∷ xs) h w e = by (ends_turn x.event) refl w (λ v. waiting_open xs h v e)
   where
-    by : (b : Bool) → ends_turn x.event ≡ b → MatchBool b ((xs ≡ []) × (is_end x.event ≡ true) × (is_over h ≡ true)) (AreWaiting xs h) → (AreWaiting xs h → NoEnds xs) → (ends_turn x.event ≡ false) × NoEnds xs
+    by : (b : Bool) → ends_turn x.event ≡ b → MatchBool b ((xs ≡ []) × (is_end x.event ≡ true) × (is_over h ≡ true) × (x.store ≡ store_held h)) (AreWaiting xs h) → (AreWaiting xs h → NoEnds xs) → (ends_turn x.event ≡ false) × NoEnds xs
     by true q v on = true_false (sym v.2 ∙ e)
     by false q v on = (q, on v)
 

@@ -94,10 +94,10 @@ abbrev pub is_at_pause : Held → Bool
 is_at_pause (calling ph s f args th l) = is_again th
 is_at_pause _ = false
 
--- Notes of a strand that are made and not told: none ends its turn, but that the last may be its end, and then it is over.
+-- Notes of a strand that are made and not told: none ends its turn, but that the last may be its end, and then it is over, with that note's store.
 abbrev pub AreWaiting : List Note → Held → Type 0
 AreWaiting [] h = Unit {0}
-AreWaiting (x ∷ xs) h = MatchBool (ends_turn x.event) ((xs ≡ []) × (is_end x.event ≡ true) × (is_over h ≡ true)) (AreWaiting xs h)
+AreWaiting (x ∷ xs) h = MatchBool (ends_turn x.event) ((xs ≡ []) × (is_end x.event ≡ true) × (is_over h ≡ true) × (x.store ≡ store_held h)) (AreWaiting xs h)
 
 -- ---- how a strand goes on
 
@@ -122,6 +122,11 @@ pub record LastMove (p : Module) (plan : Plan) (h : Held) (os : List Outcome) (m
   pub starts : held_starts at ≡ in_start
   pub move : (more : List Outcome) → protocol p (exports_of p) plan (meeting (os ++ more) at) ≡ goes k made (meeting more h')
   pub used_is : used ≡ cost + suc k
+
+-- That is a stretch.
+abbrev pub LastMoveLeads : Type 0
+LastMoveLeads =
+    (p : Module) (plan : Plan) (h h' : Held) (os : List Outcome) (made : List Note) (used : ℕ) (in_start : Bool) → LastMove p plan h os made used h' in_start → Stretch p plan h os made used h'
 
 -- whether an event is a trap
 abbrev pub IsNoTrap : Option Event → Type 0
@@ -208,12 +213,12 @@ FirstTurnBegins =
     (g : StrandsInWorld) → 0 < length g.program.strands
     → InTurn g (starting g) g.steps 0 0 true (opened_first g.program).events (opened_first g.program).last (all_at_start g.program)
 
--- Moves that make no note leave a turn as it is.
+-- Moves that meet no outcome: what they make waits behind what was ready.
 abbrev pub TurnMoves : Type 0
 TurnMoves =
-    (g : StrandsInWorld) (t : ProgramTeller) (left k due : ℕ) (in_start in_start' : Bool) (h h' : Held) (ts : List (Thread Held)) (used : ℕ)
-    → InTurn g t left k due in_start [] h ts → Stretch g.program.source (plan_of g.program (strand_at g.program k)) h [] [] used h' → used ≤ left
-    → InTurn g t (left - used) k due in_start' [] h' ts
+    (g : StrandsInWorld) (t : ProgramTeller) (left k due : ℕ) (in_start in_start' : Bool) (ready made : List Note) (h h' : Held) (ts : List (Thread Held)) (used : ℕ)
+    → InTurn g t left k due in_start ready h ts → GoesSo g.program.source (plan_of g.program (strand_at g.program k)) in_start ready h [] made used h' in_start' → used ≤ left
+    → AreWaiting (ready ++ made) h' → InTurn g t (left - used) k due in_start' (ready ++ made) h' ts
 
 -- A note that ends no turn is told; the others that were made wait.
 abbrev pub TurnTells : Type 0
@@ -235,7 +240,7 @@ TurnPauses =
     → ready ++ made ≡ x ∷ [] → x.event ≡ paused ticks taken → ticks ≤ longest_pause → is_at_pause h' ≡ true
     → BetweenTurns g (told_on t k (having_told s (x ∷ []) os answers) (x ∷ []) false) (left - used) (store_held h') (put k (due + ticks) (Some h') ts)
 
--- A strand's own end is told: the others stay.
+-- A strand's own end is told: the others stay, over the store of that note.
 abbrev pub StrandEnds : Type 0
 StrandEnds =
     (g : StrandsInWorld) (t : ProgramTeller) (left k due : ℕ) (in_start in_start' : Bool) (ready : List Note) (h : Held) (ts : List (Thread Held)) (s : StrandTeller) (os : List Outcome)
@@ -243,7 +248,7 @@ StrandEnds =
     → InTurn g t left k due in_start ready h ts → slice_get t.strands k ≡ Some s
     → GoesSo g.program.source (plan_of g.program (strand_at g.program k)) in_start ready h os made used (over at) in_start' → used ≤ left
     → ready ++ made ≡ x ∷ [] → x.event ≡ ended how → ends_strand in_start' how ≡ true
-    → BetweenTurns g (told_on t k (having_told s (x ∷ []) os answers) (x ∷ []) false) (left - used) at (put k due None ts)
+    → BetweenTurns g (told_on t k (having_told s (x ∷ []) os answers) (x ∷ []) false) (left - used) x.store (put k due None ts)
 
 -- An end of the program is told: that is all.
 abbrev pub ProgramEnds : Type 0
