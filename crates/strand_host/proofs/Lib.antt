@@ -1,4 +1,5 @@
 pub mod StandingGoes
+pub mod StandingLed
 pub mod StandingMoves
 pub mod StandingTellers
 pub mod StandingThreads

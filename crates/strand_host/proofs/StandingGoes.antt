@@ -27,7 +27,7 @@ module _ (g : StrandProgram) (i : ℕ) where
   stops_goes k es h e = let no_way : ⊥ = cc in absurd no_way
 
   -- one that moves isn't over
-  not_over : (h h2 : Held) (k : ℕ) (es : List Note) → next h ≡ goes k es h2 → is_over h ≡ false
+  pub not_over : (h h2 : Held) (k : ℕ) (es : List Note) → next h ≡ goes k es h2 → is_over h ≡ false
   not_over (free s l) h2 k es e = refl
   not_over (starting f s l) h2 k es e = refl
   not_over (busy ph c l) h2 k es e = refl
@@ -59,7 +59,7 @@ module _ (g : StrandProgram) (i : ℕ) where
       let quiet : is_at_pause v ≡ false = subst (λ (us : List Note). Settles (last_event us) v) nil.0 settled in
       true_false (sym (ap is_at_pause on.1 ∙ e) ∙ quiet)
 
-  over_stays : (h h' : Held) (n : ℕ) (es : List Note) → Leads next h n es h' → is_over h ≡ true → (n ≡ 0) × (h ≡ h') × (es ≡ [])
+  pub over_stays : (h h' : Held) (n : ℕ) (es : List Note) → Leads next h n es h' → is_over h ≡ true → (n ≡ 0) × (h ≡ h') × (es ≡ [])
   over_stays h h' n es l e = leads_stopped Held Note next h h' n es (over_stops h e) l
 
   module _ (due : ℕ) (ts : List (Thread Held)) (lt : i < length ts) where
@@ -102,7 +102,7 @@ module _ (g : StrandProgram) (i : ℕ) where
             woven_at loom i due h ts lt ∙ ap (moved loom (held_starts h) i due (put i due (Some h) ts)) e
             ∙ ap (λ (x : Ran (Woven Held) Told). goes k x.events x.last) (woven_put loom (held_starts h) i due es h2 ts due (Some h))
 
-    both_on : (st st1 st2 : Bool) (ready mid all : List Note) (h h1 h2 : Held) (n m : ℕ) → Goes st ready h n st1 mid h1 → Goes st1 mid h1 m st2 all h2 → Goes st ready h (n + m) st2 all h2
+    pub both_on : (st st1 st2 : Bool) (ready mid all : List Note) (h h1 h2 : Held) (n m : ℕ) → Goes st ready h n st1 mid h1 → Goes st1 mid h1 m st2 all h2 → Goes st ready h (n + m) st2 all h2
     both_on st st1 st2 ready mid all h h1 h2 n m a b = record {
       told = a.told ++ b.told;
       events = b.events ∙ ap (λ (us : List Told). us ++ b.told) a.events ∙ append_assoc (w st ready h).events a.told b.told;
