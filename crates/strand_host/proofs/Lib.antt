@@ -3,4 +3,5 @@ pub mod StandingLed
 pub mod StandingMoves
 pub mod StandingTellers
 pub mod StandingThreads
+pub mod StandingTurns
 pub mod StandingWoven

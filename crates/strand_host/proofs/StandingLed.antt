@@ -155,7 +155,7 @@ module _ (g : StrandsInWorld) (t : ProgramTeller) (left k due : ℕ) (st st' : B
       let e = ap length m.dues in
       omega (arith, a, b, c, d, e)
 
-  lt_meeting : (more : List (List Outcome)) → k < length (threads_meeting more ts)
+  pub lt_meeting : (more : List (List Outcome)) → k < length (threads_meeting more ts)
   lt_meeting more = let a = lt in let b = length_meeting (outcomes_at more) 0 ts in omega (arith, a, b)
 
   abbrev pub standing_so : (more : List (List Outcome)) → Bool → List Note → Held → Ran (Woven Held) Told
