@@ -1,3 +1,4 @@
+pub mod StandingEnds
 pub mod StandingGoes
 pub mod StandingLed
 pub mod StandingMoves

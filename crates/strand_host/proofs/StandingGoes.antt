@@ -20,7 +20,7 @@ module _ (g : StrandProgram) (i : ℕ) where
   abbrev pub next : Held → Turn Held Note
   next = protocol g.source (exports_of g.source) (plan_of g (strand_at g i))
 
-  so : (h h2 : Held) (k : ℕ) (es : List Note) → next h ≡ goes k es h2 → MoveSo (is_in_start h) (goes k es h2)
+  pub so : (h h2 : Held) (k : ℕ) (es : List Note) → next h ≡ goes k es h2 → MoveSo (is_in_start h) (goes k es h2)
   so h h2 k es e = subst (MoveSo (is_in_start h)) e (move_so g.source (exports_of g.source) (plan_of g (strand_at g i)) h)
 
   stops_goes : {A : Type 0} (k : ℕ) (es : List Note) (h : Held) → stops ≡ goes k es h → A

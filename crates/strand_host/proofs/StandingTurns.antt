@@ -35,29 +35,29 @@ module _ (s : StrandTeller) (x : Note) (os : List Outcome) (answers : List Answe
   abbrev s1 : StrandTeller
   s1 = having_told s (x ∷ []) os answers
 
-  quiet_due : (due : ℕ) → s.due ≡ due → ends_turn x.event ≡ false → s1.due ≡ due
+  pub quiet_due : (due : ℕ) → s.due ≡ due → ends_turn x.event ≡ false → s1.due ≡ due
   quiet_due due e q = let z = (quiet_note 0 x.event q).1 in omega (arith, e, z)
 
-  quiet_end : ends_turn x.event ≡ false → s1.has_ended ≡ false
+  pub quiet_end : ends_turn x.event ≡ false → s1.has_ended ≡ false
   quiet_end q = ap (λ b. b || false) (quiet_note 0 x.event q).2
 
-  pause_due : (due ticks taken : ℕ) → s.due ≡ due → x.event ≡ paused ticks taken → s1.due ≡ due + ticks
+  pub pause_due : (due ticks taken : ℕ) → s.due ≡ due → x.event ≡ paused ticks taken → s1.due ≡ due + ticks
   pause_due due ticks taken e q = let z = ap ticks_in q in omega (arith, e, z)
 
-  pause_end : (ticks taken : ℕ) → x.event ≡ paused ticks taken → s1.has_ended ≡ false
+  pub pause_end : (ticks taken : ℕ) → x.event ≡ paused ticks taken → s1.has_ended ≡ false
   pause_end ticks taken q = ap (λ (e : Event). is_end e || false) q
 
-  end_due : (due : ℕ) (how : End) → s.due ≡ due → x.event ≡ ended how → s1.due ≡ due
+  pub end_due : (due : ℕ) (how : End) → s.due ≡ due → x.event ≡ ended how → s1.due ≡ due
   end_due due how e q = let z = ap ticks_in q in omega (arith, e, z)
 
-  end_end : (how : End) → x.event ≡ ended how → s1.has_ended ≡ true
+  pub end_end : (how : End) → x.event ≡ ended how → s1.has_ended ≡ true
   end_end how q = ap (λ (e : Event). is_end e || false) q
 
-nil_cons : {A : Type 0} (x : Note) (xs : List Note) → [] ≡ x ∷ xs → A
+pub nil_cons : {A : Type 0} (x : Note) (xs : List Note) → [] ≡ x ∷ xs → A
 nil_cons x xs e = let no_way : ⊥ = cc in absurd no_way
 
 -- notes are made at a cost
-made_costs : (g : StrandProgram) (k : ℕ) (h h' : Held) (n : ℕ) (es : List Note) (x : Note) → Leads (G.next g k) h n es h' → es ≡ x ∷ [] → 1 ≤ n
+pub made_costs : (g : StrandProgram) (k : ℕ) (h h' : Held) (n : ℕ) (es : List Note) (x : Note) → Leads (G.next g k) h n es h' → es ≡ x ∷ [] → 1 ≤ n
 made_costs g k h _ _ _ x stays e = nil_cons x [] e
 made_costs g k h h' n es x (moves {k = j} {n = m} q rest c d) e = omega (arith, c)
 
@@ -67,13 +67,13 @@ module _ (g : StrandsInWorld) (t : ProgramTeller) (left k due : ℕ) (st : Bool)
   abbrev loom : Loom Held
   loom = held_loom g.program
 
-  same_s : (s : StrandTeller) → slice_get t.strands k ≡ Some s → s.due ≡ due
+  pub same_s : (s : StrandTeller) → slice_get t.strands k ≡ Some s → s.due ≡ due
   same_s s e = ap (λ (u : StrandTeller). u.due) (the_same s m.s (sym e ∙ m.there)) ∙ m.due_is
 
-  steps_left : (used : ℕ) → used ≤ left → (m.used + used) + (left - used) ≡ g.steps
+  pub steps_left : (used : ℕ) → used ≤ left → (m.used + used) + (left - used) ≡ g.steps
   steps_left used le = let z = m.steps in omega (arith, z, le)
 
-turn_moves : TurnMoves
+pub turn_moves : TurnMoves
 turn_moves g t left k due st st' ready made h h' ts used m so le wait = record {
   used = m.used + used;
   steps = steps_left g t left k due st ready h ts m used le;
@@ -101,7 +101,7 @@ turn_moves g t left k due st st' ready made h h' ts used m so le wait = record {
     still_due =
         dues_told ts t.strands k due due (Some h) (Some h') m.s m.dues m.due_is (ap unless_over m.unfinished) ∙ ap dues_of_strands (set_same t.strands k m.s m.there)
 
-turn_tells : TurnTells
+pub turn_tells : TurnTells
 turn_tells g t left k due st st' ready h h' ts s os answers made behind x used m there so le split quiet wait = record {
   used = m.used + used;
   steps = steps_left g t left k due st ready h ts m used le;
