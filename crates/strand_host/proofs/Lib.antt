@@ -2,6 +2,7 @@ pub mod StandingEnds
 pub mod StandingGoes
 pub mod StandingLed
 pub mod StandingMoves
+pub mod StandingNext
 pub mod StandingTellers
 pub mod StandingThreads
 pub mod StandingTurns
