@@ -259,6 +259,16 @@ thread_due [] k t e = none_is t e
 thread_due (u ∷ ts) zero t e = ap (λ (x : Thread Held). x.due) (the_same u t e)
 thread_due (u ∷ ts) (suc k) t e = thread_due ts k t e
 
+-- where a strand stands that hasn't ended
+pub thread_got : (ts : List (Thread Held)) (k : ℕ) → is_ready (slice_get (dues_of_threads ts) k) ≡ true → (due : ℕ) × (h : Held) × (slice_get ts k ≡ Some (record { due = due; at = Some h }))
+thread_got [] k e = true_false (sym e)
+thread_got (t ∷ ts) zero e = by t.at refl e
+  where
+    by : (o : Option Held) → t.at ≡ o → is_there (somewhere o) ≡ true → (due : ℕ) × (h : Held) × (Some t ≡ Some (record { due = due; at = Some h }))
+    by None a q = true_false (sym q)
+    by (Some h) a q = (t.due, h, ap (λ (p : Option Held). Some (record { due = t.due; at = p })) a)
+thread_got (t ∷ ts) (suc k) e = thread_got ts k e
+
 pub next_turn_begins : NextTurnBegins
 next_turn_begins g t left s ts k due h b first there = record {
   used = b.used;
