@@ -3,6 +3,7 @@ pub mod StandingGoes
 pub mod StandingLed
 pub mod StandingMoves
 pub mod StandingNext
+pub mod StandingStart
 pub mod StandingStories
 pub mod StandingTellers
 pub mod StandingThreads
