@@ -1,5 +1,5 @@
 -- A strand's turn ends by a pause or an end.
-use Rattle.std.proofs.Common.{arith, ◌≡◌, ◌<◌, ◌≤◌, ◌*◌, ℕ, zero, suc, ◌+◌, ◌-◌, List, [], ◌∷◌, ◌++◌, length, Option, Some, None, Bool, true, false, refl, sym, ap, ◌∙◌, subst, append_assoc, append-nil}
+use Rattle.std.proofs.Common.{arith, ◌≡◌, ◌<◌, ℕ, suc, ◌+◌, ◌-◌, List, [], ◌∷◌, ◌++◌, length, Option, Some, None, Bool, true, refl, sym, ap, ◌∙◌, subst, append-nil}
 use Rattle.std.specs.Prelude.{MatchBool, slice_get, slice_set, if◌then◌else◌}
 use Rattle.wa_types.specs.Syntax.{Module}
 use Rattle.wa_model.specs.Machine.{CostsMore, Leads, Ran, Turn, after, goes, moves, run, stays, still, stops}
@@ -12,24 +12,24 @@ use Rattle.wa_model.specs.declared.events.End.{End}
 use Rattle.wa_model.specs.declared.events.End.TheVariants.{StepsSpent}
 use Rattle.run_theory.proofs.Runs.{leads_run, no_move, too_dear}
 use Rattle.world_model.specs.World.{ends_turn, is_end}
-use Rattle.host_laws.specs.Stretch.{IsSpent, Stretch, is_over, meeting}
+use Rattle.host_laws.specs.Stretch.{Stretch, is_over, meeting}
 use Rattle.host_laws.proofs.Stretches.{store_meeting}
 use Rattle.strand_laws.proofs.Blocks.{set_length}
 use Rattle.strand_laws.proofs.WovenRuns.{end_woven, finished_stops, pause_woven, stands, stands_none, woven_at}
 use Rattle.strand_laws.specs.StrandWorld.{HeldStrands, StrandsInWorld, strand_unless_over}
-use Rattle.strand_laws.specs.Strands.{ProtocolStrands, StrandProgram, held_loom, held_starts, outcomes_at, plan_of, strand_at}
-use Rattle.strand_laws.specs.ToldStrands.{ProgramTeller, StrandTeller, having_told, met_and, told_on}
+use Rattle.strand_laws.specs.Strands.{ProtocolStrands, StrandProgram, held_loom, outcomes_at, plan_of, strand_at}
+use Rattle.strand_laws.specs.ToldStrands.{ProgramTeller, StrandTeller, having_told, met_and}
 use Rattle.strand_laws.specs.Weaving.{now_behind}
-use Rattle.strand_laws.specs.Woven.{Loom, Ready, Thread, Told, Woven, ends_strand, finished, going, last_event, moved, put, standing_now, told_by, weave, weave_on, woven}
+use Rattle.strand_laws.specs.Woven.{Loom, Ready, Thread, Told, Woven, ends_strand, finished, going, last_event, moved, put, standing_now, told_by, weave, weave_on}
 use Rattle.strand_host.proofs.StandingGoes as G
-use Rattle.strand_host.proofs.StandingLed.{ending_one, last_move_leads, led_same, led_so, led_tell, lt, lt_meeting, standing_so}
-use Rattle.strand_host.proofs.StandingMoves.{HasStore, LastStore, MoveSo, Settles}
+use Rattle.strand_host.proofs.StandingLed.{ending_one, last_move_leads, led_same, led_so, led_tell, lt_meeting, standing_so}
+use Rattle.strand_host.proofs.StandingMoves.{HasStore, MoveSo, Settles}
 use Rattle.strand_host.proofs.StandingTellers.{dues_told, now_last, put_length, within_at, within_more, within_set}
 use Rattle.strand_host.proofs.StandingThreads.{length_meeting, over_meeting, put_meeting}
 use Rattle.strand_host.proofs.StandingTurns.{end_due, end_end, made_costs, nil_cons, pause_due, pause_end, same_s, steps_left}
 use Rattle.strand_host.proofs.StandingWoven.{Ending, true_false, woven_open}
-use Rattle.strand_host.specs.Standing.{AreWaiting, BetweenTurns, DueFits, GoesSo, InTurn, IsNoTrap, Led, LedTo, ProgramEnds, StepsRunOut, StrandEnds, TurnPauses, WholeStory}
-use Rattle.strand_host.specs.Standing.{as_before, begun_strands, behind_start, by_last_move, either_way, is_at_pause, is_in_start, longest_pause, threads_meeting, unless_over}
+use Rattle.strand_host.specs.Standing.{AreWaiting, DueFits, GoesSo, InTurn, IsNoTrap, Led, LedTo, ProgramEnds, StepsRunOut, StrandEnds, TurnPauses}
+use Rattle.strand_host.specs.Standing.{as_before, begun_strands, behind_start, by_last_move, either_way, is_in_start, threads_meeting, unless_over}
 
 -- ---- what waits, and what is made
 

@@ -1,14 +1,12 @@
 -- A strand's stretch is one of the woven machine, up to the note that ends its turn.
-use Rattle.std.proofs.Common.{arith, ◌≡◌, ◌<◌, ◌⊎◌, inl, inr, ℕ, zero, suc, ◌+◌, List, [], ◌∷◌, ◌++◌, length, Option, Some, None, Bool, true, false, refl, sym, ap, ◌∙◌, subst, append_assoc, append-nil}
+use Rattle.std.proofs.Common.{arith, ◌≡◌, ◌<◌, ◌⊎◌, inl, inr, ℕ, suc, ◌+◌, List, [], ◌∷◌, ◌++◌, length, Option, Some, Bool, true, false, refl, sym, ap, ◌∙◌, subst, append_assoc, append-nil}
 use Rattle.wa_model.specs.Machine.{Leads, Ran, Turn, after, goes, moves, stays, stops}
 use Rattle.wa_model.specs.Outside.{Event, answered, called, ended, parked, paused, returned, shown}
 use Rattle.wa_model.specs.Blocking.{Note}
 use Rattle.wa_model.specs.Protocol.{Held, aside, busy, calling, entering, exports_of, free, over, protocol, starting}
-use Rattle.wa_model.specs.declared.events.End.{End}
 use Rattle.run_theory.proofs.Runs.{leads_on, leads_stopped}
 use Rattle.world_model.specs.World.{ends_turn, is_end}
 use Rattle.host_laws.specs.Stretch.{is_over}
-use Rattle.strand_laws.proofs.Weaving.{told_both}
 use Rattle.strand_laws.proofs.WovenRuns.{NoEnds, woven_at}
 use Rattle.strand_laws.specs.Strands.{StrandProgram, held_loom, held_starts, plan_of, strand_at}
 use Rattle.strand_laws.specs.Woven.{Loom, Thread, Told, Woven, going, last_event, moved, put, told_by, weave, woven}

@@ -1,11 +1,10 @@
 -- Where the machine stands once a strand has gone on, whatever later calls meet.
-use Rattle.std.proofs.Common.{arith, ◌≡◌, ◌<◌, ◌≤◌, ℕ, zero, suc, ◌+◌, ◌-◌, List, [], ◌∷◌, ◌++◌, length, Option, Some, None, Bool, true, false, refl, sym, ap, ◌∙◌, subst, append_assoc, append-nil}
+use Rattle.std.proofs.Common.{arith, ◌≡◌, ◌<◌, ℕ, suc, ◌+◌, List, [], ◌∷◌, ◌++◌, length, Some, Bool, true, false, refl, sym, ap, ◌∙◌, subst, append_assoc, append-nil}
 use Rattle.std.specs.Prelude.{MatchBool, slice_get, slice_set}
-use Rattle.wa_types.specs.Syntax.{Module}
-use Rattle.wa_model.specs.Machine.{Leads, Ran, Turn, after, goes, moves, stays, stops}
-use Rattle.wa_model.specs.Plan.{Outcome, Plan}
+use Rattle.wa_model.specs.Machine.{Leads, Ran, after, goes, moves, stays}
+use Rattle.wa_model.specs.Plan.{Outcome}
 use Rattle.wa_model.specs.Blocking.{Note}
-use Rattle.wa_model.specs.Protocol.{Held, aside, busy, calling, entering, exports_of, free, over, protocol, starting, store_held}
+use Rattle.wa_model.specs.Protocol.{Held, exports_of, protocol, store_held}
 use Rattle.run_theory.proofs.Runs.{leads_on}
 use Rattle.world_model.specs.World.{ends_turn, is_end}
 use Rattle.host_laws.specs.Stretch.{Stretch, is_over, meeting}
@@ -14,12 +13,12 @@ use Rattle.strand_laws.proofs.WovenRuns.{NoEnds}
 use Rattle.strand_laws.specs.Strands.{StrandProgram, held_loom, held_starts, outcomes_at, plan_of, strand_at}
 use Rattle.strand_laws.specs.StrandWorld.{StrandsInWorld}
 use Rattle.strand_laws.specs.ToldStrands.{ProgramTeller, StrandTeller, met_and}
-use Rattle.strand_laws.specs.Woven.{Loom, Thread, Told, Woven, last_event, put, told_by, weave, woven}
+use Rattle.strand_laws.specs.Woven.{Loom, Thread, Told, Woven, put, weave, woven}
 use Rattle.strand_host.proofs.StandingGoes as G
 use Rattle.strand_host.proofs.StandingTellers.{dues_length, dues_long, get_lt, put_length}
 use Rattle.strand_host.proofs.StandingThreads.{front_others, front_own, in_start_meeting, length_meeting, met_front, over_meeting, pause_meeting, put_same_meeting, starts_meeting, with_front}
 use Rattle.strand_host.proofs.StandingWoven.{Ending, no_ends_nil, no_trap_same, true_false, waiting_open, woven_alike}
-use Rattle.strand_host.specs.Standing.{AreWaiting, GoesSo, InTurn, LastMove, LastMoveLeads, Led, LedTo, as_before, behind_start, by_last_move, either_way, is_at_pause, is_in_start, threads_meeting}
+use Rattle.strand_host.specs.Standing.{AreWaiting, GoesSo, InTurn, LastMoveLeads, Led, LedTo, as_before, behind_start, by_last_move, either_way, is_at_pause, threads_meeting}
 
 -- ---- notes that wait, with outcomes
 

@@ -7,7 +7,7 @@ use Rattle.wa_types.specs.Syntax.{Func, Module}
 use Rattle.wa_model.specs.declared.answers.Said.{Said}
 use Rattle.wa_model.specs.declared.answers.Said.TheVariants as S
 use Rattle.wa_model.specs.declared.events.End.{End}
-use Rattle.wa_model.specs.Outside.{Answer, Event, answered, called, ended, parked, paused, returned, shown}
+use Rattle.wa_model.specs.Outside.{Answer, Event, answered, ended, paused, returned}
 use Rattle.wa_model.specs.Blocking.{Asker, Left, Note, Task, an_entry, call_note, done_notes, fault_of, in_start, inside, is_start, next_entry, note, outermost, pause_of, poked, stack_at, store_at, the_start}
 use Rattle.wa_model.specs.Blocking.{value_of_results, with_outcomes}
 use Rattle.wa_model.specs.Configuration.{Configuration}

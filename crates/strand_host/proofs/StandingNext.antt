@@ -1,13 +1,12 @@
 -- Between two turns the strand that is due first begins its own; where none is left, all has been told.
-use Rattle.std.proofs.Common.{arith, ◌≡◌, ◌<◌, ◌≤◌, ◌⊎◌, inl, inr, ℕ, zero, suc, ◌+◌, ◌-◌, List, [], ◌∷◌, ◌++◌, length, Option, Some, None, Bool, true, false, refl, sym, ap, ◌∙◌, subst, append-nil}
-use Rattle.std.specs.Prelude.{MatchBool, nat_lt, slice_get, if◌then◌else◌}
-use Rattle.wa_model.specs.Machine.{Ran, after, run, still}
+use Rattle.std.proofs.Common.{arith, ◌≡◌, ◌<◌, ◌≤◌, ◌⊎◌, inl, inr, ℕ, zero, suc, ◌+◌, List, [], ◌∷◌, ◌++◌, length, Option, Some, None, Bool, true, false, refl, sym, ap, ◌∙◌, subst, append-nil}
+use Rattle.std.specs.Prelude.{nat_lt, slice_get, if◌then◌else◌}
+use Rattle.wa_model.specs.Machine.{Ran, after, still}
 use Rattle.wa_model.specs.Outside.{Event, ended}
 use Rattle.wa_model.specs.Plan.{Entry, Outcome}
-use Rattle.wa_model.specs.Blocking.{Left, Note, done_notes}
-use Rattle.wa_model.specs.Protocol.{Held, aside, busy, calling, entering, free, held_on, is_running, over, rewinds, starting, store_held, unwinds}
+use Rattle.wa_model.specs.Blocking.{Note, done_notes}
+use Rattle.wa_model.specs.Protocol.{Held, aside, busy, calling, entering, free, held_on, is_running, over, rewinds, starting, unwinds}
 use Rattle.wa_model.specs.Store.{Store}
-use Rattle.wa_model.specs.declared.events.End.{End}
 use Rattle.wa_model.specs.declared.events.End.TheVariants.{Done}
 use Rattle.run_theory.proofs.Runs.{no_move}
 use Rattle.host_laws.specs.Stretch.{meeting}
@@ -19,13 +18,13 @@ use Rattle.strand_laws.specs.StrandWorld.{HeldStrands, strand_unless_over}
 use Rattle.strand_laws.specs.Strands.{held_loom, held_wakes, outcomes_at}
 use Rattle.strand_laws.specs.ToldStrands.{StrandTeller, met_and}
 use Rattle.strand_laws.specs.Weaving.{Dues, HasTurn, IsDueFirst, due_in, is_ready, is_there}
-use Rattle.strand_laws.specs.Woven.{Loom, Ready, Thread, Told, Woven, awake, ends_strand, finished, first_ready, last_event, put, ready_if, sooner, standing_now, told_by, weave, weave_on, woven, woven_by}
+use Rattle.strand_laws.specs.Woven.{Loom, Ready, Thread, Told, Woven, awake, finished, first_ready, last_event, put, ready_if, sooner, standing_now, told_by, weave, weave_on, woven, woven_by}
 use Rattle.strand_host.proofs.StandingEnds.{whole_led}
 use Rattle.strand_host.proofs.StandingLed.{led_same}
 use Rattle.strand_host.proofs.StandingTellers.{dues_same}
 use Rattle.strand_host.proofs.StandingThreads.{first_meeting, length_meeting, meeting_ready, wakes_events, wakes_last}
 use Rattle.strand_host.proofs.StandingWoven.{true_false}
-use Rattle.strand_host.specs.Standing.{AllOver, AreWaiting, BetweenTurns, InTurn, Led, NextTurnBegins, NoTurnIsLeft, WholeStory, dues_of_strands, dues_of_threads, meeting_from, now_told, somewhere, threads_meeting, unless_over}
+use Rattle.strand_host.specs.Standing.{AreWaiting, NextTurnBegins, NoTurnIsLeft, dues_of_strands, dues_of_threads, meeting_from, somewhere, threads_meeting, unless_over}
 
 -- ---- the strand that is due first
 

@@ -1,5 +1,5 @@
 -- A program's first turn.
-use Rattle.std.proofs.Common.{arith, ◌≡◌, ◌<◌, ◌≤◌, ◌*◌, ◌⊎◌, inl, inr, ℕ, zero, suc, ◌+◌, List, [], ◌∷◌, ◌++◌, length, All, Option, Some, None, Bool, true, false, refl, sym, ap, ◌∙◌, subst, append-nil}
+use Rattle.std.proofs.Common.{arith, ◌≡◌, ◌<◌, ◌≤◌, ◌*◌, inr, ℕ, zero, suc, ◌+◌, List, [], ◌∷◌, length, Option, Some, None, true, false, refl, sym, ap, ◌∙◌, subst, append-nil}
 use Rattle.std.specs.Prelude.{drop, map, slice_get}
 use Rattle.std.proofs.lemmas.List.Elements.{All-cons, All-nil}
 use Rattle.wa_model.specs.Instantiation.{Opening, fails_as, opens, opening}
@@ -7,16 +7,15 @@ use Rattle.wa_model.specs.Machine.{Leads, Ran, stays}
 use Rattle.wa_model.specs.Plan.{Entry, Outcome}
 use Rattle.wa_model.specs.Blocking.{Left, Note, all_left, done_notes, no_store, with_outcomes}
 use Rattle.wa_model.specs.Protocol.{Held, free, held_begun, held_on}
-use Rattle.wa_model.specs.Store.{Store}
 use Rattle.host_laws.specs.Stretch.{meeting}
 use Rattle.strand_laws.specs.StrandWorld.{StrandsInWorld, answers_of}
 use Rattle.strand_laws.specs.Strands.{Strand, StrandProgram, beginnings, first_outcomes, held_loom, outcomes_at, plan_of, strand_at}
-use Rattle.strand_laws.specs.ToldStrands.{StrandTeller, met_and, starting, starting_strands}
-use Rattle.strand_laws.specs.Weaving.{IsDueFirst, due_in, is_ready}
+use Rattle.strand_laws.specs.ToldStrands.{StrandTeller, met_and, starting_strands}
+use Rattle.strand_laws.specs.Weaving.{due_in, is_ready}
 use Rattle.strand_laws.specs.Woven.{Thread, Told, Woven, put, weave, woven}
 use Rattle.strand_host.proofs.StandingThreads.{on_meeting}
-use Rattle.strand_host.proofs.StandingWoven.{true_false, woven_alike}
-use Rattle.strand_host.specs.Standing.{AreWaiting, DuesWithin, FirstTurnBegins, InTurn, Led, LedTo, all_at_start, at_start, begun_strands, dues_of_strands, dues_of_threads, longest_pause, meeting_from, opened_first, threads_meeting}
+use Rattle.strand_host.proofs.StandingWoven.{woven_alike}
+use Rattle.strand_host.specs.Standing.{AreWaiting, DuesWithin, FirstTurnBegins, all_at_start, at_start, begun_strands, dues_of_strands, dues_of_threads, longest_pause, meeting_from, opened_first, threads_meeting}
 
 -- ---- what instantiation makes doesn't depend on outcomes
 

@@ -1,7 +1,7 @@
 -- What was told begins a story.
-use Rattle.std.proofs.Common.{arith, ◌≡◌, ◌<◌, ◌≤◌, ℕ, zero, suc, ◌+◌, List, [], ◌∷◌, ◌++◌, length, Option, Some, None, Bool, true, false, refl, sym, ap, ◌∙◌, subst, append_assoc, append-nil, length-append}
-use Rattle.std.specs.Prelude.{slice_get, if◌then◌else◌}
-use Rattle.wa_model.specs.Machine.{Leads, Ran, after, run, still}
+use Rattle.std.proofs.Common.{arith, ◌≡◌, ◌<◌, ℕ, suc, ◌+◌, List, [], ◌∷◌, ◌++◌, length, Option, Some, None, Bool, true, false, refl, sym, ap, ◌∙◌, subst, append_assoc, append-nil, length-append}
+use Rattle.std.specs.Prelude.{slice_get}
+use Rattle.wa_model.specs.Machine.{Ran, after, run, still}
 use Rattle.wa_model.specs.Outside.{Event, answered, called, ended, parked, paused, returned, shown}
 use Rattle.wa_model.specs.Plan.{Outcome}
 use Rattle.wa_model.specs.Blocking.{Note}
@@ -12,16 +12,15 @@ use Rattle.host_laws.specs.Stretch.{meeting}
 use Rattle.strand_laws.proofs.EndTogether.{run_quiet}
 use Rattle.strand_laws.proofs.WovenEnds.{ends_are_told, goes_now}
 use Rattle.strand_laws.proofs.WovenRuns.{stands}
-use Rattle.strand_laws.specs.StrandNotes.{OnStory}
 use Rattle.strand_laws.specs.StrandWorld.{HeldStrands, StrandsInWorld, strand_unless_over}
 use Rattle.strand_laws.specs.Strands.{ProtocolStrands, held_loom, outcomes_at}
-use Rattle.strand_laws.specs.ToldStrands.{IsRest, ProgramTeller, met_and}
-use Rattle.strand_laws.specs.Weaving.{IsDueFirst, is_ready, is_there}
-use Rattle.strand_laws.specs.Woven.{Loom, Ready, Thread, Told, Woven, ends_strand, finished, going, last_event, put, standing_now, told_by, weave, weave_on, woven, woven_by}
+use Rattle.strand_laws.specs.ToldStrands.{IsRest, met_and}
+use Rattle.strand_laws.specs.Weaving.{is_ready, is_there}
+use Rattle.strand_laws.specs.Woven.{Loom, Ready, Thread, Told, Woven, going, last_event, standing_now, weave, weave_on, woven, woven_by}
 use Rattle.strand_host.proofs.StandingLed.{lt_meeting}
 use Rattle.strand_host.proofs.StandingNext.{next_turn_begins, thread_got}
-use Rattle.strand_host.proofs.StandingWoven.{ran_to, true_false}
-use Rattle.strand_host.specs.Standing.{BetweenIsOnStory, InTurn, Led, LedTo, TurnIsOnStory, WholeIsOnStory, begun_strands, dues_of_strands, threads_meeting}
+use Rattle.strand_host.proofs.StandingWoven.{true_false}
+use Rattle.strand_host.specs.Standing.{BetweenIsOnStory, LedTo, TurnIsOnStory, WholeIsOnStory, begun_strands, threads_meeting}
 
 -- ---- the rest
 
@@ -106,7 +105,7 @@ some_on g left st k due (x ∷ es) h ts lt =
 -- ---- laws
 
 pub turn_is_on_story : TurnIsOnStory
-turn_is_on_story g t left k due st ready h ts m live pokes = record { begins = begins; pokes = pokes }
+turn_is_on_story g t left k due st ready h ts m live = record { begins = begins }
   where
     begins : (more : List (List Outcome)) → (rest : List Told) × HeldStrands g (met_and t.strands more) (t.told ++ rest) × IsRest t.has_ended rest
     begins more =
@@ -117,12 +116,9 @@ turn_is_on_story g t left k due st ready h ts m live pokes = record { begins = b
         )
 
 pub between_is_on_story : BetweenIsOnStory
-between_is_on_story g t left s ts k b first live pokes =
+between_is_on_story g t left s ts k b first live =
     let got = thread_got ts k (ap (λ (v : _). is_ready (slice_get v k)) b.dues ∙ first.ready) in
-    turn_is_on_story g t left k got.0 false _ _ ts (next_turn_begins g t left s ts k got.0 got.1 b first got.2) live pokes
+    turn_is_on_story g t left k got.0 false _ _ ts (next_turn_begins g t left s ts k got.0 got.1 b first got.2) live
 
 pub whole_is_on_story : WholeIsOnStory
-whole_is_on_story g t whole over pokes = record {
-  begins = λ more. ([], subst (HeldStrands g (met_and t.strands more)) (sym (append-nil t.told)) (whole more), subst (λ b. IsRest b []) (sym over) refl);
-  pokes = pokes;
-}
+whole_is_on_story g t whole over = record { begins = λ more. ([], subst (HeldStrands g (met_and t.strands more)) (sym (append-nil t.told)) (whole more), subst (λ b. IsRest b []) (sym over) refl) }

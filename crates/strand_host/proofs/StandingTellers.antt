@@ -1,15 +1,13 @@
 -- What is known of a program whose strand told one note more.
-use Rattle.std.proofs.Common.{arith, ◌≡◌, ◌<◌, ◌≤◌, ◌*◌, ℕ, zero, suc, ◌+◌, List, [], ◌∷◌, ◌++◌, length, All, Option, Some, None, Bool, true, false, refl, sym, ap, ◌∙◌, subst}
-use Rattle.std.specs.Prelude.{◌||◌, map, slice_get, slice_set}
-use Rattle.std.proofs.lemmas.List.Elements.{All-cons, All-head, All-nil, All-tail, All-weaker}
-use Rattle.wa_model.specs.Blocking.{Note}
-use Rattle.wa_model.specs.Outside.{AnswerLine, Event, answered, called, ended, parked, paused, returned, shown}
-use Rattle.wa_model.specs.Plan.{Outcome}
-use Rattle.world_model.specs.World.{ends_turn, is_end, put_off, ticks_in}
-use Rattle.strand_laws.proofs.Blocks.{none_is, set_get, set_length, the_same}
-use Rattle.strand_laws.specs.ToldStrands.{StrandTeller, having_told}
-use Rattle.strand_laws.specs.Weaving.{Dues, due_in, is_ready, is_there, now_behind}
-use Rattle.strand_laws.specs.Woven.{Thread, Told, put, told_by}
+use Rattle.std.proofs.Common.{arith, ◌≡◌, ◌<◌, ◌≤◌, ◌*◌, ℕ, zero, suc, ◌+◌, List, [], ◌∷◌, ◌++◌, length, Option, Some, false, refl, sym, ap, ◌∙◌, subst}
+use Rattle.std.specs.Prelude.{slice_get, slice_set}
+use Rattle.std.proofs.lemmas.List.Elements.{All-cons, All-head, All-tail, All-weaker}
+use Rattle.wa_model.specs.Outside.{Event, answered, called, ended, parked, paused, returned, shown}
+use Rattle.world_model.specs.World.{ends_turn, is_end, ticks_in}
+use Rattle.strand_laws.proofs.Blocks.{none_is, the_same}
+use Rattle.strand_laws.specs.ToldStrands.{StrandTeller}
+use Rattle.strand_laws.specs.Weaving.{Dues, now_behind}
+use Rattle.strand_laws.specs.Woven.{Thread, Told, put}
 use Rattle.strand_host.specs.Standing.{DuesWithin, as_due, dues_of_strands, dues_of_threads, longest_pause, now_told, somewhere, unless_over}
 
 -- ---- dues

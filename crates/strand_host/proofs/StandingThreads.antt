@@ -1,16 +1,15 @@
 -- Strands whose outcomes are put in.
-use Rattle.std.proofs.Common.{arith, ◌≡◌, ℕ, zero, suc, ◌+◌, List, [], ◌∷◌, ◌++◌, length, Option, Some, None, Bool, true, false, refl, sym, ap, ◌∙◌, subst, append_assoc, append-nil}
-use Rattle.std.specs.Prelude.{map, nat_lt, if◌then◌else◌, slice_get, slice_set}
-use Rattle.wa_model.specs.Machine.{Ran}
+use Rattle.std.proofs.Common.{arith, ◌≡◌, ℕ, zero, suc, ◌+◌, List, [], ◌∷◌, ◌++◌, length, Option, Some, None, Bool, true, false, refl, sym, ap, ◌∙◌, append_assoc, append-nil}
+use Rattle.std.specs.Prelude.{nat_lt, if◌then◌else◌, slice_get, slice_set}
 use Rattle.wa_model.specs.Store.{Store}
 use Rattle.wa_model.specs.Plan.{Entry, Outcome}
-use Rattle.wa_model.specs.Blocking.{Left, Note, done_notes, with_outcomes}
+use Rattle.wa_model.specs.Blocking.{Left, with_outcomes}
 use Rattle.wa_model.specs.Protocol.{Held, aside, busy, calling, entering, free, held_on, is_running, over, rewinds, starting, unwinds}
 use Rattle.host_laws.specs.Stretch.{is_over, meeting}
 use Rattle.strand_laws.specs.Strands.{held_starts, held_wakes, outcomes_at}
 use Rattle.strand_laws.specs.ToldStrands.{StrandTeller, met_and}
 use Rattle.strand_laws.specs.Woven.{Ready, Thread, first_ready, put, ready_if, sooner}
-use Rattle.strand_host.specs.Standing.{AreWaiting, is_at_pause, is_in_start, meeting_from, meeting_if}
+use Rattle.strand_host.specs.Standing.{is_at_pause, is_in_start, meeting_from, meeting_if}
 
 -- ---- one strand
 

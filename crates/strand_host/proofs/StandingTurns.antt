@@ -1,33 +1,26 @@
 -- A strand's turn goes on, note by note, up to its pause or an end.
-use Rattle.std.proofs.Common.{arith, ◌≡◌, ◌<◌, ◌≤◌, ◌*◌, ℕ, zero, suc, ◌+◌, ◌-◌, List, [], ◌∷◌, ◌++◌, length, Option, Some, None, Bool, true, false, refl, sym, ap, ◌∙◌, subst, append_assoc, append-nil}
-use Rattle.std.specs.Prelude.{◌||◌, MatchBool, slice_get, slice_set, if◌then◌else◌}
-use Rattle.wa_model.specs.Machine.{CostsMore, Leads, Ran, Turn, after, goes, moves, run, stays, still, stops}
+use Rattle.std.proofs.Common.{arith, ◌≡◌, ◌≤◌, ℕ, zero, suc, ◌+◌, ◌-◌, List, [], ◌∷◌, ◌++◌, Some, Bool, true, false, refl, sym, ap, ◌∙◌, subst, append-nil}
+use Rattle.std.specs.Prelude.{◌||◌, slice_get, slice_set}
+use Rattle.wa_model.specs.Machine.{Leads, after, moves, stays}
 use Rattle.wa_model.specs.Outside.{AnswerLine, Event, ended, paused}
 use Rattle.wa_model.specs.Plan.{Outcome}
-use Rattle.wa_model.specs.Blocking.{Note, note}
-use Rattle.wa_model.specs.Protocol.{Held, over, store_held}
-use Rattle.wa_model.specs.Store.{Store}
+use Rattle.wa_model.specs.Blocking.{Note}
+use Rattle.wa_model.specs.Protocol.{Held}
 use Rattle.wa_model.specs.declared.events.End.{End}
-use Rattle.wa_model.specs.declared.events.End.TheVariants.{StepsSpent}
-use Rattle.run_theory.proofs.Runs.{leads_run, no_move, too_dear}
-use Rattle.world_model.specs.World.{ends_turn, is_end, put_off, ticks_in}
-use Rattle.host_laws.specs.Stretch.{IsSpent, Stretch, is_over, meeting}
-use Rattle.host_laws.proofs.Stretches.{store_meeting}
+use Rattle.world_model.specs.World.{ends_turn, is_end, ticks_in}
+use Rattle.host_laws.specs.Stretch.{meeting}
 use Rattle.strand_laws.proofs.Blocks.{set_get, set_length, the_same}
-use Rattle.strand_laws.proofs.WovenRuns.{finished_stops, stands, stands_none, woven_at}
-use Rattle.strand_laws.specs.StrandWorld.{HeldStrands, StrandsInWorld, strand_unless_over}
-use Rattle.strand_laws.specs.Strands.{ProtocolStrands, StrandProgram, held_loom, held_starts, outcomes_at, plan_of, strand_at}
-use Rattle.strand_laws.specs.ToldStrands.{ProgramTeller, StrandTeller, having_told, met_and, tells_end, told_on}
-use Rattle.strand_laws.specs.Weaving.{HasTurn, now_behind}
-use Rattle.strand_laws.specs.Woven.{Loom, Ready, Thread, Told, Woven, ends_strand, finished, going, last_event, moved, put, standing_now, told_by, weave, weave_on, woven, woven_by}
+use Rattle.strand_laws.specs.StrandWorld.{StrandsInWorld}
+use Rattle.strand_laws.specs.Strands.{StrandProgram, held_loom, outcomes_at}
+use Rattle.strand_laws.specs.ToldStrands.{ProgramTeller, StrandTeller, having_told, met_and}
+use Rattle.strand_laws.specs.Weaving.{HasTurn}
+use Rattle.strand_laws.specs.Woven.{Loom, Thread, put, told_by}
 use Rattle.strand_host.proofs.StandingGoes as G
-use Rattle.strand_host.proofs.StandingLed.{ending_front, ending_one, led_same, led_so, led_tell, lt, lt_meeting, standing_so, waiting_as, waiting_ending}
-use Rattle.strand_host.proofs.StandingMoves.{HasStore, LastStore, MoveSo, move_so}
+use Rattle.strand_host.proofs.StandingLed.{ending_front, led_same, led_so, led_tell, standing_so, waiting_ending}
 use Rattle.strand_host.proofs.StandingTellers.{dues_told, now_last, quiet_note, within_at, within_more, within_set}
-use Rattle.strand_host.proofs.StandingThreads.{length_meeting, put_meeting}
-use Rattle.strand_host.proofs.StandingWoven.{Ending, true_false, woven_front, woven_open}
-use Rattle.strand_host.specs.Standing.{AreWaiting, BetweenTurns, DueFits, DuesWithin, GoesSo, InTurn, IsNoTrap, Led, LedTo, ProgramEnds, StepsRunOut, StrandEnds, TurnMoves, TurnPauses, TurnTells, WholeStory}
-use Rattle.strand_host.specs.Standing.{as_before, behind_start, begun_strands, by_last_move, dues_of_strands, dues_of_threads, either_way, is_at_pause, longest_pause, meeting_if, now_told, somewhere, threads_meeting, unless_over}
+use Rattle.strand_host.proofs.StandingWoven.{Ending, woven_front}
+use Rattle.strand_host.specs.Standing.{InTurn, LedTo, TurnMoves, TurnTells}
+use Rattle.strand_host.specs.Standing.{dues_of_strands, dues_of_threads, threads_meeting, unless_over}
 
 -- ---- a note told
 

@@ -1,22 +1,19 @@
 -- A strand's moves, in the machine of woven strands, where notes of it wait to be told.
-use Rattle.std.proofs.Common.{arith, ◌≡◌, ◌<◌, ◌⊎◌, inl, inr, ℕ, zero, suc, ◌+◌, List, [], ◌∷◌, ◌++◌, length, Option, Some, None, Bool, true, false, refl, sym, ap, ◌∙◌, subst, append_assoc, append-nil}
-use Rattle.std.specs.Prelude.{MatchBool, slice_get, slice_set, if◌then◌else◌}
-use Rattle.wa_model.specs.Machine.{Leads, Ran, Turn, after, goes, moves, stays, still, stops}
+use Rattle.std.proofs.Common.{◌≡◌, ◌⊎◌, inl, inr, ℕ, suc, ◌+◌, List, [], ◌∷◌, ◌++◌, length, Option, Some, None, Bool, true, false, refl, sym, ap, ◌∙◌, subst, append_assoc, append-nil}
+use Rattle.std.specs.Prelude.{MatchBool, if◌then◌else◌}
+use Rattle.wa_model.specs.Machine.{Ran, after, still}
 use Rattle.wa_model.specs.Outside.{Event, answered, called, ended, parked, paused, returned, shown}
 use Rattle.wa_model.specs.declared.events.End.{End}
 use Rattle.wa_model.specs.declared.events.End.TheVariants as E
 use Rattle.wa_model.specs.Blocking.{Note}
 use Rattle.wa_model.specs.Protocol.{Held, store_held}
 use Rattle.wa_model.specs.Store.{Store}
-use Rattle.run_theory.proofs.Runs.{leads_on, leads_stopped}
 use Rattle.world_model.specs.World.{ends_turn, is_end}
 use Rattle.host_laws.specs.Stretch.{is_over}
 use Rattle.strand_laws.proofs.Weaving.{GoesOn, stays_on, told_both, twice}
-use Rattle.strand_laws.proofs.WovenRuns.{NoEnds, length_put, no_ends_last, no_ends_left, woven_at}
-use Rattle.strand_laws.specs.Strands.{StrandProgram, held_loom, held_starts, plan_of, strand_at}
-use Rattle.strand_laws.specs.Woven.{Loom, Thread, Told, Woven, ends_strand, finished, going, last_event, moved, put, told_by, weave, weave_on, woven, woven_by}
-use Rattle.strand_host.proofs.StandingMoves.{MoveSo, Settles, move_so}
-use Rattle.strand_host.specs.Standing.{AreWaiting, IsNoTrap, is_at_pause, is_in_start}
+use Rattle.strand_laws.proofs.WovenRuns.{NoEnds, length_put, no_ends_last}
+use Rattle.strand_laws.specs.Woven.{Loom, Thread, Told, Woven, ends_strand, finished, going, last_event, put, told_by, weave_on, woven, woven_by}
+use Rattle.strand_host.specs.Standing.{AreWaiting, IsNoTrap, is_at_pause}
 
 -- ---- notes that end a turn
 
