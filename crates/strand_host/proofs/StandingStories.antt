@@ -1,5 +1,5 @@
 -- What was told begins a story.
-use Rattle.std.proofs.Common.{arith, ◌≡◌, ◌<◌, ℕ, suc, ◌+◌, List, [], ◌∷◌, ◌++◌, length, Option, Some, None, Bool, true, false, refl, sym, ap, ◌∙◌, subst, append_assoc, append-nil, length-append}
+use Rattle.std.proofs.Common.{arith, ◌≡◌, ◌<◌, ℕ, suc, ◌+◌, List, [], ◌∷◌, ◌++◌, length, Option, Some, None, Bool, true, false, refl, sym, ap, ◌∙◌, subst, append_assoc, append-nil, length-append, ◌*◌, ◌^◌, ◌≤◌}
 use Rattle.std.specs.Prelude.{slice_get}
 use Rattle.wa_model.specs.Machine.{Ran, after, run, still}
 use Rattle.wa_model.specs.Outside.{Event, answered, called, ended, parked, paused, returned, shown}
@@ -10,17 +10,19 @@ use Rattle.wa_model.specs.Store.{Store}
 use Rattle.run_theory.proofs.Runs.{leads_run}
 use Rattle.host_laws.specs.Stretch.{meeting}
 use Rattle.strand_laws.proofs.EndTogether.{run_quiet}
+use Rattle.strand_laws.proofs.StoryLengths.{most_told, story_length}
 use Rattle.strand_laws.proofs.WovenEnds.{ends_are_told, goes_now}
 use Rattle.strand_laws.proofs.WovenRuns.{stands}
+use Rattle.strand_laws.specs.StrandNotes.{OnStory}
 use Rattle.strand_laws.specs.StrandWorld.{HeldStrands, StrandsInWorld, strand_unless_over}
 use Rattle.strand_laws.specs.Strands.{ProtocolStrands, held_loom, outcomes_at}
-use Rattle.strand_laws.specs.ToldStrands.{IsRest, met_and}
+use Rattle.strand_laws.specs.ToldStrands.{IsRest, ProgramTeller, met_and}
 use Rattle.strand_laws.specs.Weaving.{is_ready, is_there}
 use Rattle.strand_laws.specs.Woven.{Loom, Ready, Thread, Told, Woven, going, last_event, standing_now, weave, weave_on, woven, woven_by}
 use Rattle.strand_host.proofs.StandingLed.{lt_meeting}
 use Rattle.strand_host.proofs.StandingNext.{next_turn_begins, thread_got}
 use Rattle.strand_host.proofs.StandingWoven.{true_false}
-use Rattle.strand_host.specs.Standing.{BetweenIsOnStory, LedTo, TurnIsOnStory, WholeIsOnStory, begun_strands, threads_meeting}
+use Rattle.strand_host.specs.Standing.{BetweenIsOnStory, LedTo, TurnIsOnStory, WholeIsOnStory, begun_strands, threads_meeting, longest_pause}
 
 -- ---- the rest
 
@@ -122,3 +124,26 @@ between_is_on_story g t left s ts k b first live =
 
 pub whole_is_on_story : WholeIsOnStory
 whole_is_on_story g t whole over = record { begins = λ more. ([], subst (HeldStrands g (met_and t.strands more)) (sym (append-nil t.told)) (whole more), subst (λ b. IsRest b []) (sym over) refl) }
+
+-- ---- how much is told
+
+-- a program that goes on has told less than the most
+pub told_fits : (g : StrandsInWorld) (t : ProgramTeller) → OnStory g t → t.has_ended ≡ false → length t.told + 1 ≤ most_told g
+told_fits g t on live =
+    let b = on.begins [] in
+    let lt : 0 < length b.0 = subst (λ c. IsRest c b.0) live b.2 in
+    let a = story_length g (met_and t.strands []) (t.told ++ b.0) b.1 in
+    let l = length-append t.told b.0 in
+    omega (arith, lt, a, l)
+
+-- one that has ended has told the most at most
+pub told_few : (g : StrandsInWorld) (t : ProgramTeller) → OnStory g t → length t.told ≤ most_told g
+told_few g t on =
+    let b = on.begins [] in
+    let a = story_length g (met_and t.strands []) (t.told ++ b.0) b.1 in
+    let l = length-append t.told b.0 in
+    omega (arith, a, l)
+
+-- a due tick is in range
+pub due_in_range : (steps due : ℕ) → steps ≤ 1000000000 → due ≤ longest_pause * steps → due < 2 ^ 64
+due_in_range steps due few le = omega (arith, few, le)
