@@ -1,3 +1,5 @@
+pub mod Events
+pub mod Rows
 pub mod StandingEnds
 pub mod StandingGoes
 pub mod StandingLed
@@ -9,3 +11,6 @@ pub mod StandingTellers
 pub mod StandingThreads
 pub mod StandingTurns
 pub mod StandingWoven
+pub mod StoresKept
+pub mod StrandBeginnings
+pub mod StrandPlaces
