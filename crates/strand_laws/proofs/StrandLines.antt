@@ -1,5 +1,5 @@
 -- The worlds of two strands have their lines.
-use Rattle.std.proofs.Common.{arith, ◌≡◌, ℕ, List, [], ◌∷◌, ◌++◌, length, All, Some, false, refl, ap, sym, ◌∙◌, ◌+◌}
+use Rattle.std.proofs.Common.{arith, ◌≡◌, ℕ, List, [], ◌∷◌, ◌++◌, length, Some, refl, ap, sym, ◌∙◌, ◌+◌}
 use Rattle.std.specs.Prelude.{nat_eq}
 use Rattle.std.proofs.lemmas.List.Elements.{All-nil, All-cons}
 use Rattle.wa_types.specs.declared.values.Value.TheVariants as V
@@ -8,9 +8,7 @@ use Rattle.wa_types.specs.Base.{Base}
 use Rattle.wa_types.specs.Pruned.{pruned}
 use Rattle.wa_types.specs.Pausing.{calls_of, save_all}
 use Rattle.wa_types.specs.Points.{points}
-use Rattle.wa_model.specs.declared.answers.Area.{Area}
-use Rattle.wa_model.specs.Blocking.{overlap}
-use Rattle.wa_model.specs.Outside.{Event, Poke, returned}
+use Rattle.wa_model.specs.Outside.{Event, returned}
 use Rattle.wa_model.specs.Plan.{Outcome, given}
 use Rattle.world_model.specs.World.{Actor, IsOver, Program, an_event, at_start, no_event, turn_lines}
 use Rattle.image_laws.specs.Example.{saving}

@@ -1,5 +1,5 @@
 -- Three strands over what is emitted of a small module tell in a world all that its own strands tell.
-use Rattle.std.proofs.Common.{arith, ◌≡◌, ◌≤◌, ◌<◌, ◌+◌, ◌⊎◌, inl, inr, ℕ, zero, suc, List, [], ◌∷◌, ◌++◌, length, Some, Bool, true, false, All, refl, ◌∙◌, subst, ⊎_elim, eqb-true, leb-true, ltb-true}
+use Rattle.std.proofs.Common.{arith, ◌≡◌, ◌≤◌, ◌<◌, ◌+◌, ◌⊎◌, inl, inr, ℕ, zero, suc, List, [], ◌∷◌, ◌++◌, length, Some, Bool, true, false, refl, ◌∙◌, subst, ⊎_elim, eqb-true, leb-true, ltb-true}
 use Rattle.std.specs.Prelude.{nat_eq, nat_le, nat_lt, slice_get, ◌&&◌, ◌||◌}
 use Rattle.std.proofs.lemmas.List.Elements.{All-cons, All-nil}
 use Rattle.std.proofs.lemmas.Option.{same_Some}
@@ -13,12 +13,8 @@ use Rattle.wa_types.specs.Pausing.{Policy, calls_of, save_all, save_live}
 use Rattle.wa_types.specs.Points.{call_points, points}
 use Rattle.wa_types.specs.Pruned.{pruned}
 use Rattle.wa_types.specs.Syntax.{Module}
-use Rattle.wa_model.specs.declared.answers.Area.{Area}
-use Rattle.wa_model.specs.declared.answers.Said.{Said}
 use Rattle.wa_model.specs.declared.answers.Said.TheVariants as S
 use Rattle.wa_model.specs.Behaves.{pause_stacks}
-use Rattle.wa_model.specs.Blocking.{overlap}
-use Rattle.wa_model.specs.Outside.{Poke}
 use Rattle.wa_model.specs.Plan.{given}
 use Rattle.world_model.specs.World.{Actor, HasNotes, IsNext, Program, an_event, at_start, no_event, turn_lines}
 use Rattle.emitted_form.specs.EmittedAs.{EmittedAs}
@@ -28,7 +24,7 @@ use Rattle.strand_laws.proofs.StrandStories.{bound_above, bounded_strands_end, c
 use Rattle.strand_laws.proofs.StrandWorlds.{bounded_worlds_held, compared_are_orderly, emitted_are_rewritten}
 use Rattle.strand_laws.proofs.Turns.{compared_there, turns_there}
 use Rattle.strand_laws.proofs.TwoActors.{gone_on, one_turn}
-use Rattle.strand_laws.specs.Example.{notes_of_three, outcomes_of_three, said_after, three_strands}
+use Rattle.strand_laws.specs.Example.{notes_of_three, outcomes_of_three, three_strands}
 use Rattle.strand_laws.specs.StrandOriginals.{LooksOff, StrandsBounded, StrandsMayRun, StrandsOrderly, StrandsStandIn}
 use Rattle.strand_laws.specs.StrandWorld.{BlockingStrandWorld, IsFinished, Staged, StrandOriginal, answers_of, last_strand, looks_if, notes_of, strand_actors, strand_programs, StrungStrands, whole}
 use Rattle.strand_laws.specs.Strands.{BlockingStrands, areas_of, outcomes_at, plan_of, strand_at}

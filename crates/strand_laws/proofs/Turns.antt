@@ -13,11 +13,9 @@ use Rattle.wa_types.specs.Points.{call_points, points}
 use Rattle.wa_types.specs.Pruned.{pruned}
 use Rattle.wa_types.specs.Sizes.{value_fits}
 use Rattle.wa_model.specs.declared.answers.Area.{Area}
-use Rattle.wa_model.specs.declared.answers.Said.{Said}
 use Rattle.wa_model.specs.declared.answers.Said.TheVariants as S
 use Rattle.wa_model.specs.Behaves.{IsPrefix}
-use Rattle.wa_model.specs.Blocking.{State, begins, between, halts, overlap, runs}
-use Rattle.wa_model.specs.Outside.{Poke}
+use Rattle.wa_model.specs.Blocking.{State, begins, between, halts, runs}
 use Rattle.wa_model.specs.Plan.{AreaFits, EntryFits, Fits, Outcome, OutcomeFits, PokeFits, given}
 use Rattle.wa_model.specs.Store.{Range}
 use Rattle.wa_model.specs.Untouched.{IsCalm, StaysOff, next_ranges}
@@ -28,7 +26,7 @@ use Rattle.strand_laws.proofs.Emitted.{strands_of_emitted}
 use Rattle.strand_laws.proofs.Numbered.{pauses_at_numbers}
 use Rattle.strand_laws.specs.Example.{ThreeTakeTurns, notes_of_three, outcomes_of_three, said_after, strand_of, three_strands, told_by_emitted, told_of_three, used_by}
 use Rattle.strand_laws.specs.Strands.{AreApart, BlockingStrands, IsCalmAt, IsCalmNow, Strand, StrandsBehaveOn, StrandsCompared, StrandsNumbered}
-use Rattle.strand_laws.specs.Strands.{StrandsUntouched, Strung, events_told, on, outcomes_at, plan_of, strand_at, waits}
+use Rattle.strand_laws.specs.Strands.{StrandsUntouched, Strung, events_told, on, plan_of, strand_at, waits}
 use Rattle.strand_laws.specs.Woven.{Ready, standing_now}
 
 pub turns_there : (policy : Policy) → events_told (notes_of_three policy) ≡ told_of_three (used_by policy)
