@@ -1,1 +1,1 @@
-use Rattle.strand_host.proofs.Events.{LandsSo}
+use Rattle.strand_host.proofs.PlainMoves.{plain_moves}
