@@ -1,4 +1,5 @@
 pub mod Events
+pub mod GoingOn
 pub mod PlainMoves
 pub mod Rows
 pub mod StandingEnds
@@ -15,3 +16,4 @@ pub mod StandingWoven
 pub mod StoresKept
 pub mod StrandBeginnings
 pub mod StrandPlaces
+pub mod TheLaws
