@@ -1,5 +1,6 @@
-use Rattle.std.proofs.Common.{◌≡◌, ◌-◌, refl, sym, ap, ◌∙◌, subst, arith}
+use Rattle.std.proofs.Common.{◌≡◌, ◌-◌, false, refl, sym, ap, ◌∙◌, subst, arith}
 use Rattle.device_port.specs.Listed.{of_all}
+use Rattle.strand_host.specs.declared.program.StrandProgram.{StrandProgram}
 use Rattle.strand_host.specs.declared.strands.Strand.{Strand}
 use Rattle.strand_host.specs.declared.strands.StrandEvent.{StrandEvent}
 use Rattle.strand_host.specs.StrandPrograms.{TellsEvent, stock_of, world_strand}
@@ -55,8 +56,9 @@ returns-clause-next g c = λ gw t at.
     let fs' = of_all (λ z. (goal.Device-dyn g z).faults z.1) c.strand_event.new.devices in
     let comes = c.in_ok-moved.ensures.comes (world_strand gw k) at.at.strand.is_set at.code at.at.strand.pokes (fits_w gw t x i k s false at) (not_ended gw t x i k s false at) in
     let left : c.strand_event.new.steps.left ≡ c.args.self.now.steps_left - used = omega (arith, c.strand_event.ensures.sum, c.strand_event.ensures.grows, c.unused-steps.ensures.left) in
+    let old : StrandProgram = record c.args.self.now { setting = record c.args.self.now.setting { area = s.area }; steps_left = c.strand_event.new.steps.left } in
     let told = tells_event all_laws due_fits gw t x i k s at i' s' refl c.unused-steps.result.left used c.unused-steps.ensures.left m refl ds ds' fs fs' comes c.in_ok-moved.ensures.pauses
-    c.tell.ensures.short (comes.pokes at.at.strand.pokes) (c.strand_event.ensures.code ∙ at.code) _ c.tell.new.self (ap (λ n. record x { steps_left = n }) left) c.tell.ensures.settles in
+    c.tell.ensures.short (comes.pokes at.at.strand.pokes) (c.strand_event.ensures.code ∙ at.code) old c.tell.new.self (ap (λ n. record x { steps_left = n }) left) c.tell.ensures.settles in
     let one : StrandEvent = record { strand = k; event = m.event } in
     let same : one ≡ c.tell.result = ap (λ n. record { strand = n; event = m.event }) (sym c.tell.ensures.event.0) ∙ ap (λ e. record { strand = c.tell.result.strand; event = e }) (sym c.tell.ensures.event.1) in
     subst (λ z. TellsEvent gw t z ds fs ds' fs' c.tell.new.self) same told
