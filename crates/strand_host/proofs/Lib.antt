@@ -1,0 +1,5 @@
+pub mod FewStrandEvents
+pub mod StrandBegun
+pub mod StrandOrder
+pub mod StrandShown
+pub mod StrandTold

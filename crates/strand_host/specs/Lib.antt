@@ -1,0 +1,3 @@
+pub mod StrandCalls
+pub mod StrandStanding
+pub mod StrandTelling
