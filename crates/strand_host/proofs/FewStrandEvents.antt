@@ -10,8 +10,8 @@ use Rattle.strand_laws.specs.StrandWorld.{StrandLine, StrandsInWorld}
 use Rattle.strand_laws.specs.ToldStrands.{EndsOnce, ProgramTeller, TellsStrandTurn, TellsStrands, having_told, met_and, starting, told_on}
 use Rattle.strand_laws.specs.Woven.{Told, told_by}
 use Rattle.strand_laws.proofs.StoryLengths.{most_told, story_length}
-use Rattle.strand_host.specs.declared.turns.Stage.{Stage}
-use Rattle.strand_host.specs.declared.turns.Stage.TheVariants.{Between, Showing, Telling}
+use Rattle.strand_host.specs.declared.turn_taking.Stage.{Stage}
+use Rattle.strand_host.specs.declared.turn_taking.Stage.TheVariants.{Between, Showing, Telling}
 use Rattle.strand_host.specs.StrandStanding.{Hosted, IsPlace, StrandsStanding, stage_behind}
 use Rattle.strand_host.specs.StrandTelling.{IsToldSo}
 use Rattle.wa_model.specs.Outside.{Event, answered, called, ended, parked, paused, returned, shown}

@@ -13,8 +13,8 @@ use Rattle.strand_laws.specs.StrandNotes.{TellsOnStrands}
 use Rattle.strand_laws.specs.StrandWorld.{StrandLine, StrandsInWorld}
 use Rattle.strand_laws.specs.ToldStrands.{IsDueNext, ProgramTeller, starting}
 use Rattle.strand_laws.proofs.StrandNotes.{turn_begins}
-use Rattle.strand_host.specs.declared.turns.Stage.{Stage}
-use Rattle.strand_host.specs.declared.turns.Stage.TheVariants.{Between, Telling}
+use Rattle.strand_host.specs.declared.turn_taking.Stage.{Stage}
+use Rattle.strand_host.specs.declared.turn_taking.Stage.TheVariants.{Between, Telling}
 use Rattle.strand_host.specs.StrandStanding.{AllStrandsStart, Hosted, IsHosted, StrandsStandAt, StrandsStanding}
 use Rattle.strand_host.specs.StrandTelling.{IsDueThen, IsToldSo, now_told}
 use Rattle.strand_host.proofs.StrandOrder.{chosen_next, none_goes_on}
@@ -38,13 +38,13 @@ module _ {X : Type 0} (follows : X → StrandsInWorld → ProgramTeller → Type
       let g = item programs i (omega (arith, slice_get_within s.tellers i t et, s.wide)) in
       ((so x g.0 t (s.each i g.0 t x g.1 et ex).follow).due_is, none_goes_on programs detaches ds h.begun lines s.tellers ds' s.at i t et)
 
-  next : (strand : ℕ) × IsDueNext s.tellers turn.program strand turn.due
+  pub next : (strand : ℕ) × IsDueNext s.tellers turn.program strand turn.due
   next = chosen_next due_at h.programs s.tellers (s.as_many ∙ sym s.wide) each_due turn.program turn.due least_is
 
   abbrev begun_now : ℕ → Hosted X
   begun_now n = record { programs = h.programs; dues = h.dues; detaches = h.detaches; shows = h.shows; begun = n }
 
-  begun_on : (n : ℕ) (own : List Detach) (es : List Device) → n ≡ h.begun + 1 → own ≡ h.detaches → es ≡ detached n own ds'
+  pub begun_on : (n : ℕ) (own : List Detach) (es : List Device) → n ≡ h.begun + 1 → own ≡ h.detaches → es ≡ detached n own ds'
       → TellsOnStrands programs detaches ds h.begun turn.program next.0 turn.due lines s.tellers es
   begun_on n own es is own_is out =
       let number : suc h.begun ≡ n = omega (arith, is) in
@@ -53,7 +53,7 @@ module _ {X : Type 0} (follows : X → StrandsInWorld → ProgramTeller → Type
       subst (λ (d : List Device). TellsOnStrands programs detaches ds h.begun turn.program next.0 turn.due lines s.tellers d) out_is
       (turn_begins programs detaches ds ds' h.begun turn.program next.0 turn.due lines s.tellers g.0 s.at g.1 next.1)
 
-  pub begun_at : (n : ℕ) (own : List Detach) (es : List Device) → n ≡ h.begun + 1 → own ≡ h.detaches → es ≡ detached n own ds'
+  abbrev pub begun_at : (n : ℕ) (own : List Detach) (es : List Device) → n ≡ h.begun + 1 → own ≡ h.detaches → es ≡ detached n own ds'
       → StrandsStanding follows due_at memory programs detaches ds lines (begun_now n) es (Telling turn)
   begun_at n own es is own_is out =
       record {
@@ -67,10 +67,19 @@ module _ {X : Type 0} (follows : X → StrandsInWorld → ProgramTeller → Type
       }
 
 -- where it is known to stand
-pub standing : {X : Type 0} (follows : X → StrandsInWorld → ProgramTeller → Type 0) (due_at : X → Option ℕ) (memory : X → List ℕ) (programs : List StrandsInWorld) (detaches : List Detach)
+abbrev pub standing : {X : Type 0} (follows : X → StrandsInWorld → ProgramTeller → Type 0) (due_at : X → Option ℕ) (memory : X → List ℕ) (programs : List StrandsInWorld) (detaches : List Detach)
     (ds : List Device) (lines : List StrandLine) (h : Hosted X) (ds' : List Device) (stage stage' : Stage) → stage ≡ stage'
     → StrandsStanding follows due_at memory programs detaches ds lines h ds' stage → StrandsStanding follows due_at memory programs detaches ds lines h ds' stage'
-standing follows due_at memory programs detaches ds lines h ds' stage stage' is s = subst (λ (g : Stage). StrandsStanding follows due_at memory programs detaches ds lines h ds' g) is s
+standing follows due_at memory programs detaches ds lines h ds' stage stage' is s =
+    record {
+      tellers = s.tellers;
+      wide = s.wide;
+      as_many = s.as_many;
+      each = s.each;
+      dues = s.dues;
+      detaches_are = s.detaches_are;
+      at = subst (λ (g : Stage). StrandsStandAt memory programs detaches ds lines s.tellers h ds' g) is s.at;
+    }
 
 -- ---- before the first line
 

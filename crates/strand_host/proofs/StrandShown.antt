@@ -1,9 +1,10 @@
 -- What is shown behind a program's end.
-use Rattle.std.proofs.Common.{arith, ◌≡◌, ◌+◌, ◌⊎◌, inl, ℕ, suc, List, [], ◌∷◌, ◌++◌, length, map, drop, Option, Some, None, Result, Ok, Err, slice_get, refl, sym, ap, ◌∙◌, subst, append_assoc, append-nil}
+use Rattle.std.proofs.Common.{arith, ◌≡◌, ◌+◌, ◌⊎◌, inl, ℕ, suc, List, [], ◌∷◌, ◌++◌, length, map, drop, Option, Some, None, Bool, true, false, if◌then◌else◌, nat_eq, Result, Ok, Err, slice_get, refl, sym, ap, ◌∙◌, subst, append_assoc, append-nil}
 use Rattle.std.specs.Prelude.{IfOk, MatchOption}
 use Rattle.std.proofs.lemmas.Option.{same_Some, slice_get_within}
 use Rattle.wa_model.specs.declared.answers.Detach.{Detach}
 use Rattle.wa_model.specs.Outside.{Event, shown}
+use Rattle.wa_model.specs.Plan.{Outcome}
 use Rattle.world_model.specs.World.{Device, Look, bytes_shown}
 use Rattle.world_laws.proofs.Places.{item}
 use Rattle.event_order.specs.declared.shows.Show.{Show}
@@ -12,11 +13,14 @@ use Rattle.event_order.specs.Left.{Counted}
 use Rattle.event_order.specs.Looks.{IsNextShow, look_of, looks_of}
 use Rattle.many_host.specs.Standing.{looks_at}
 use Rattle.strand_laws.specs.StrandWorld.{StrandLine, StrandsInWorld}
-use Rattle.strand_laws.specs.ToldStrands.{ProgramTeller, TellsStrands, line_of}
-use Rattle.strand_host.specs.declared.turns.Stage.TheVariants.{Between, Showing}
-use Rattle.strand_host.specs.declared.turns.StrandLine.{StrandLine as LineValue}
+use Rattle.strand_laws.specs.ToldStrands.{ProgramTeller, StrandTeller, TellsStrands, line_of}
+use Rattle.strand_host.specs.declared.turn_taking.Stage.TheVariants.{Between, Showing}
+use Rattle.strand_host.specs.declared.turn_taking.StrandLine.{StrandLine as LineValue}
 use Rattle.strand_host.specs.StrandCalls.{BegunNext, TakesStrandCall}
-use Rattle.strand_host.specs.StrandStanding.{Hosted, StrandsStanding, TellsStrandLine, shown_lines}
+use Rattle.strand_host.specs.StrandStanding.{Hosted, StrandsMeetMore, StrandsStanding, TellsStrandLine, shown_lines}
+
+abbrev no_outcomes : List Outcome
+no_outcomes = []
 
 -- what is shown takes nothing
 shown_takes : {X : Type 0} (programs : List StrandsInWorld) (xs : List X) (x : X) (due i : ℕ) (e : Event) (at : ℕ) (bytes : Option (List ℕ)) (cs : List Counted) → length xs ≡ length programs
@@ -25,6 +29,18 @@ shown_takes programs xs x due i e at bytes cs wide there is =
     let g = item programs i (omega (arith, slice_get_within xs i x there, wide)) in
     subst (λ (v : Event). TakesStrandCall programs (line_of due i 0 v) [] cs cs) (sym is) (record { g = g.0; program = g.1; answers = []; left = []; takes = (refl, refl) })
 
+-- no call was told
+none_if : (b c : Bool) → no_outcomes ≡ (if b then (if c then [] else []) else [])
+none_if true true = refl
+none_if true false = refl
+none_if false c = refl
+
+meets_none : (program strand : ℕ) (tellers : List ProgramTeller) → StrandsMeetMore program strand [] tellers tellers
+meets_none program strand tellers i k t t' u u' et et' eu eu' =
+    let t_is : t' ≡ t = same_Some t' t (sym et' ∙ et) in
+    let u_is : u' ≡ u = same_Some u' u (sym eu' ∙ ap (λ (v : ProgramTeller). slice_get v.strands k) t_is ∙ eu) in
+    ap (λ (v : StrandTeller). v.met) u_is ∙ sym (append-nil u.met) ∙ ap (λ (l : List Outcome). u.met ++ l) (none_if (nat_eq i program) (nat_eq k strand))
+
 module _ {X : Type 0} (follows : X → StrandsInWorld → ProgramTeller → Type 0) (due_at : X → Option ℕ) (memory : X → List ℕ)
     (programs : List StrandsInWorld) (detaches : List Detach) (ds : List Device) (lines : List StrandLine) (h : Hosted X) (ds' : List Device) (turn : Turn) (from : ℕ)
     (s : StrandsStanding follows due_at memory programs detaches ds lines h ds' (Showing turn from)) where
@@ -32,7 +48,7 @@ module _ {X : Type 0} (follows : X → StrandsInWorld → ProgramTeller → Type
   line e = line_of turn.due turn.program 0 e
 
   -- once all looks are out the turn is whole
-  pub all_shown : looks_of turn.program (drop from h.shows) ≡ [] → StrandsStanding follows due_at memory programs detaches ds lines h ds' Between
+  abbrev pub all_shown : looks_of turn.program (drop from h.shows) ≡ [] → StrandsStanding follows due_at memory programs detaches ds lines h ds' Between
   all_shown none =
       record {
         tellers = s.tellers;
@@ -62,7 +78,7 @@ module _ {X : Type 0} (follows : X → StrandsInWorld → ProgramTeller → Type
 
   pub shown_line : (x : X) (place next : ℕ) (look : Show) (e : Event) (cs : List Counted) → slice_get h.programs turn.program ≡ Some x → next ≡ place + 1
       → IsNextShow turn.program h.shows from place → slice_get h.shows place ≡ Some look → e ≡ shown look.at (bytes_shown (memory x) (record { at = look.at; len = look.len }))
-      → TellsStrandLine follows due_at memory programs detaches ds lines cs cs (line_of turn.due turn.program 0 e) h ds' (Showing turn next)
+      → TellsStrandLine follows due_at memory programs detaches ds lines s.tellers cs cs (line_of turn.due turn.program 0 e) h ds' (Showing turn next)
   shown_line x place next look e cs there next_is is look_there e_is =
       record {
         stands = record {
@@ -75,6 +91,7 @@ module _ {X : Type 0} (follows : X → StrandsInWorld → ProgramTeller → Type
           at = (x, there, shown_on x place next look e there next_is is look_there e_is);
         };
         met = [];
+        meets = meets_none turn.program _ s.tellers;
         takes = shown_takes programs h.programs x turn.due turn.program e look.at _ cs s.as_many there e_is;
       }
 

@@ -1,8 +1,8 @@
 -- A program's strand tells one note more of its turn.
-use Rattle.std.proofs.Common.{arith, ◌≡◌, ◌⊎◌, inl, inr, ℕ, suc, ◌+◌, List, [], ◌∷◌, ◌++◌, length, map, Option, Some, None, Bool, true, false, if◌then◌else◌, slice_get, slice_set, refl, sym, ap, ◌∙◌, subst, length-set, append_assoc, append-nil}
+use Rattle.std.proofs.Common.{arith, ◌≡◌, ◌⊎◌, inl, inr, ℕ, suc, ◌+◌, List, [], ◌∷◌, ◌++◌, length, map, Option, Some, None, Bool, true, false, if◌then◌else◌, nat_eq, slice_get, slice_set, refl, sym, ap, ◌∙◌, subst, length-set, append_assoc, append-nil}
 use Rattle.std.specs.Prelude.{is_none, not}
 use Rattle.std.specs.Option.{is_some}
-use Rattle.std.proofs.lemmas.Bool.{cases_eq}
+use Rattle.std.proofs.lemmas.Bool.{cases_eq, eq-eqb, ne_eqb}
 use Rattle.std.proofs.lemmas.List.{map-set}
 use Rattle.std.proofs.lemmas.Option.{same_Some}
 use Rattle.wa_model.specs.declared.answers.Detach.{Detach}
@@ -15,7 +15,7 @@ use Rattle.world_laws.proofs.Places.{set_here, set_same, set_there}
 use Rattle.event_order.specs.declared.turns.Turn.{Turn}
 use Rattle.event_order.specs.Left.{Counted}
 use Rattle.event_order.specs.Looks.{looks_of}
-use Rattle.host_laws.specs.Supplies.{Takes}
+use Rattle.host_laws.specs.Supplies.{Supply, Takes}
 use Rattle.host_laws.proofs.Tellings.{one_more_met}
 use Rattle.many_host.specs.Calls.{devices_of, faults_of}
 use Rattle.many_host.specs.Standing.{looks_at}
@@ -28,10 +28,10 @@ use Rattle.strand_laws.specs.Weaving.{Dues, EndNoTurn, HasTurn, IsDueFirst, now_
 use Rattle.strand_laws.specs.Woven.{Told, told_by}
 use Rattle.strand_laws.proofs.Closing.{Closes, story_closes}
 use Rattle.strand_laws.proofs.StrandNotes.{turn_ends, turn_goes_on}
-use Rattle.strand_host.specs.declared.turns.Stage.{Stage}
-use Rattle.strand_host.specs.declared.turns.Stage.TheVariants.{Between, Showing, Telling}
+use Rattle.strand_host.specs.declared.turn_taking.Stage.{Stage}
+use Rattle.strand_host.specs.declared.turn_taking.Stage.TheVariants.{Between, Showing, Telling}
 use Rattle.strand_host.specs.StrandCalls.{TakesStrandCall}
-use Rattle.strand_host.specs.StrandStanding.{Hosted, IsHosted, StrandsStandAt, StrandsStanding, TellsStrandLine, shown_lines, stage_behind}
+use Rattle.strand_host.specs.StrandStanding.{Hosted, IsHosted, StrandsMeetMore, StrandsStandAt, StrandsStanding, TellsStrandLine, shown_lines, stage_behind}
 use Rattle.strand_host.specs.StrandTelling.{HasDueTurn, IsDueThen, IsToldSo, TellsStrandNote, as_due, dues_of_strands, now_told, unless_over}
 use Rattle.strand_host.proofs.StrandOrder.{first_is, none_goes_on, turn_some}
 
@@ -85,6 +85,37 @@ call_of g k (returned c d) old new met t = t
 call_of g k (paused c d) old new met t = t
 call_of g k (ended how) old new met t = t
 call_of g k (shown c d) old new met t = t
+
+-- what its calls met counts for that strand
+meets_line : (i k : ℕ) (e : Event) (met : List Outcome) (ts ts' : List ProgramTeller) (old new : Supply) (w : Program) → Takes w (call_in e) old met new → StrandsMeetMore i k met ts ts'
+    → StrandsMeetMore i (strand_in k e) met ts ts'
+meets_line i k (called c) met ts ts' old new w t m = m
+meets_line i k (answered c) met ts ts' old new w t m = m
+meets_line i k (parked c) met ts ts' old new w t m = m
+meets_line i k (returned c d) met ts ts' old new w t m = m
+meets_line i k (paused c d) met ts ts' old new w t m = m
+meets_line i k (ended how) met ts ts' old new w t m = m
+meets_line i k (shown c d) met ts ts' old new w tk m = λ j n t t' u u' et et' eu eu'.
+    m j n t t' u u' et et' eu eu' ∙ ap (λ (l : List Outcome). u.met ++ l) (any_strand (nat_eq j i) (nat_eq n k) (nat_eq n 0) met tk.0)
+  where
+    any_strand : (b c d : Bool) (os : List Outcome) → os ≡ [] → (if b then (if c then os else []) else []) ≡ (if b then (if d then os else []) else [])
+    any_strand false c d os is = refl
+    any_strand true true true os is = refl
+    any_strand true true false os is = is
+    any_strand true false true os is = sym is
+    any_strand true false false os is = refl
+
+-- of the one strand, and of none other
+both : (b c : Bool) (os : List Outcome) → b ≡ true → c ≡ true → (if b then (if c then os else []) else []) ≡ os
+both true true os e f = refl
+both true false os e f = cc
+both false c os e f = cc
+
+apart : (b c : Bool) (os : List Outcome) → (b ≡ false) ⊎ (c ≡ false) → (if b then (if c then os else []) else []) ≡ []
+apart false c os e = refl
+apart true false os e = refl
+apart true true os (inl e) = cc
+apart true true os (inr e) = cc
 
 -- a strand that has told nothing of its turn is due as it was
 nothing_due : (ss : List StrandTeller) (k : ℕ) (s : StrandTeller) (met : List Outcome) (answers : List AnswerLine) → slice_get ss k ≡ Some s → s.has_ended ≡ false
@@ -156,8 +187,11 @@ module _ {X : Type 0} (follows : X → StrandsInWorld → ProgramTeller → Type
           sym (subst (λ (o : Option ℕ). HasTurn o (dues_of_strands (slice_set on.t.strands strand (having_told on.s (y ∷ ys) on.met on.answers))) k) (turn_some on.t.told strand y ys quiet) h)
 
   module _ (x' : X) (e : Event) (faults faults' : List ℕ) (ds'' : List Device) (n : TellsStrandNote (follows x' on.g) (memory x') on.g now strand e ds' faults ds'' faults') where
+    abbrev mine : StrandTeller
+    mine = having_told n.s (n.note ∷ []) n.met n.answers
+
     abbrev next : ProgramTeller
-    next = told_on now strand (having_told n.s (n.note ∷ []) n.met n.answers) (n.note ∷ []) n.is_last
+    next = told_on now strand mine (n.note ∷ []) n.is_last
 
     abbrev after : List ProgramTeller
     after = slice_set s.tellers i next
@@ -253,7 +287,7 @@ module _ {X : Type 0} (follows : X → StrandsInWorld → ProgramTeller → Type
           (whole (ended how) true is last refl),
     )
 
-    told_more : (due : Option ℕ) (b : Bool) (stage : Stage) → due ≡ due_at x' → b ≡ is_none due → stage ≡ stage_behind turn b e
+    abbrev told_more : (due : Option ℕ) (b : Bool) (stage : Stage) → due ≡ due_at x' → b ≡ is_none due → stage ≡ stage_behind turn b e
         → StrandsStanding follows due_at memory programs detaches ds (lines ++ line e ∷ []) (held_now due) ds'' stage
     told_more due b stage due_is b_is stage_is =
         record {
@@ -266,6 +300,38 @@ module _ {X : Type 0} (follows : X → StrandsInWorld → ProgramTeller → Type
           at = subst (λ (g : Stage). StrandsStandAt memory programs detaches ds (lines ++ line e ∷ []) after (held_now due) ds'' g) (sym stage_is)
               (stands due b e (sym (b_is ∙ ap is_none due_is ∙ over_is next (due_at x') told_so.due_is)) refl);
         }
+
+    -- what the calls met
+    meets : StrandsMeetMore i strand n.met s.tellers after
+    meets j k t t' u u' et et' eu eu' = by (cases_eq j i) (cases_eq k strand)
+      where
+        kept : u' ≡ u → (j ≡ i → ⊥) ⊎ (k ≡ strand → ⊥) → u'.met ≡ u.met ++ (if nat_eq j i then (if nat_eq k strand then n.met else []) else [])
+        kept is other =
+            ap (λ (v : StrandTeller). v.met) is ∙ sym (append-nil u.met)
+            ∙ ap (λ (l : List Outcome). u.met ++ l) (sym (apart (nat_eq j i) (nat_eq k strand) n.met (elim other [ inl ne ↦ inl (ne_eqb j i ne) | inr ne ↦ inr (ne_eqb k strand ne) ])))
+
+        same_t : (j ≡ i → ⊥) → t' ≡ t
+        same_t other = same_Some t' t (sym et' ∙ set_there s.tellers i j next other ∙ et)
+
+        was : j ≡ i → t ≡ now
+        was is = same_Some t now (sym et ∙ ap (slice_get s.tellers) is ∙ teller_there)
+
+        goes_to : j ≡ i → t' ≡ next
+        goes_to is = same_Some t' next (sym et' ∙ ap (slice_get after) is ∙ set_here s.tellers i next now teller_there)
+
+        by : (j ≡ i) ⊎ (j ≡ i → ⊥) → (k ≡ strand) ⊎ (k ≡ strand → ⊥) → u'.met ≡ u.met ++ (if nat_eq j i then (if nat_eq k strand then n.met else []) else [])
+        by (inr other) o = kept (same_Some u' u (sym eu' ∙ ap (λ (v : ProgramTeller). slice_get v.strands k) (same_t other) ∙ eu)) (inl other)
+        by (inl is) (inr other) =
+            kept
+            (same_Some u' u (
+              sym eu' ∙ ap (λ (v : ProgramTeller). slice_get v.strands k) (goes_to is) ∙ set_there now.strands strand k mine other
+              ∙ ap (λ (v : ProgramTeller). slice_get v.strands k) (sym (was is)) ∙ eu
+            )) (inr other)
+        by (inl is) (inl same) =
+            let u_is : u ≡ n.s = same_Some u n.s (sym eu ∙ ap (λ (v : ProgramTeller). slice_get v.strands k) (was is) ∙ ap (slice_get now.strands) same ∙ n.there) in
+            let u'_is : u' ≡ mine = same_Some u' mine (sym eu' ∙ ap (λ (v : ProgramTeller). slice_get v.strands k) (goes_to is) ∙ ap (slice_get next.strands) same ∙ set_here now.strands strand mine n.s n.there) in
+            ap (λ (v : StrandTeller). v.met) u'_is ∙ ap (λ (v : StrandTeller). v.met ++ n.met) (sym u_is)
+            ∙ ap (λ (l : List Outcome). u.met ++ l) (sym (both (nat_eq j i) (nat_eq k strand) n.met (eq-eqb j i is) (eq-eqb k strand same)))
 
     -- what the call took
     call_on : (old new : List Counted) → devices_of old ≡ ds' → faults_of old ≡ faults → devices_of new ≡ ds'' → faults_of new ≡ faults' → TakesStrandCall programs (line e) n.met old new
@@ -287,25 +353,25 @@ module _ {X : Type 0} (follows : X → StrandsInWorld → ProgramTeller → Type
         w = strand_program on.g [] strand (strand_at on.g.program strand)
 
     line_more : (due : Option ℕ) (b : Bool) (stage : Stage) → due ≡ due_at x' → b ≡ is_none due → stage ≡ stage_behind turn b e → (old new : List Counted) → devices_of old ≡ ds' → faults_of old ≡ faults
-        → devices_of new ≡ ds'' → faults_of new ≡ faults' → TellsStrandLine follows due_at memory programs detaches ds lines old new (line e) (held_now due) ds'' stage
-    line_more due b stage due_is b_is stage_is old new d f d' f' = record { stands = told_more due b stage due_is b_is stage_is; met = n.met; takes = call_on old new d f d' f' }
+        → devices_of new ≡ ds'' → faults_of new ≡ faults' → TellsStrandLine follows due_at memory programs detaches ds lines s.tellers old new (line e) (held_now due) ds'' stage
+    line_more due b stage due_is b_is stage_is old new d f d' f' = record { stands = told_more due b stage due_is b_is stage_is; met = n.met; meets = meets_line i strand e n.met s.tellers after (supply n.s.answers ds' faults) (supply n.answers ds'' faults') (strand_program on.g [] strand (strand_at on.g.program strand)) (subst (λ (v : Event). Takes (strand_program on.g [] strand (strand_at on.g.program strand)) (call_in v) (supply n.s.answers ds' faults) n.met (supply n.answers ds'' faults')) n.event_is n.takes) meets; takes = call_on old new d f d' f' }
 
   pub line_told : (x' : X) (k : ℕ) (e : Event) (faults faults' : List ℕ) (ds'' : List Device)
       → ((g : StrandsInWorld) (t : ProgramTeller) → follows x g t → t.has_ended ≡ false → TellsStrandNote (follows x' g) (memory x') g t k e ds' faults ds'' faults')
       → (due : Option ℕ) (b : Bool) (stage : Stage) → due ≡ due_at x' → b ≡ is_none due → stage ≡ stage_behind turn b e → (old new : List Counted) → devices_of old ≡ ds' → faults_of old ≡ faults
       → devices_of new ≡ ds'' → faults_of new ≡ faults'
-      → TellsStrandLine follows due_at memory programs detaches ds lines old new (line_of turn.due i k e)
+      → TellsStrandLine follows due_at memory programs detaches ds lines s.tellers old new (line_of turn.due i k e)
       (record { programs = slice_set h.programs i x'; dues = slice_set h.dues i due; detaches = h.detaches; shows = h.shows; begun = h.begun }) ds'' stage
   line_told x' k e faults faults' ds'' tells due b stage due_is b_is stage_is old new d f d' f' =
       let n = tells on.g now held.follow refl in
       let same : k ≡ strand = same_strand k n.turn in
-      subst (λ (j : ℕ). TellsStrandLine follows due_at memory programs detaches ds lines old new (line_of turn.due i j e)
+      subst (λ (j : ℕ). TellsStrandLine follows due_at memory programs detaches ds lines s.tellers old new (line_of turn.due i j e)
       (record { programs = slice_set h.programs i x'; dues = slice_set h.dues i due; detaches = h.detaches; shows = h.shows; begun = h.begun }) ds'' stage) (sym same)
       (line_more x' e faults faults' ds'' (subst (λ (j : ℕ). TellsStrandNote (follows x' on.g) (memory x') on.g now j e ds' faults ds'' faults') same n) due b stage due_is b_is stage_is old new d f d' f')
 
 -- by what is known of the devices
 pub line_from : {X : Type 0} {follows : X → StrandsInWorld → ProgramTeller → Type 0} {due_at : X → Option ℕ} {memory : X → List ℕ} {programs : List StrandsInWorld} {detaches : List Detach}
-    {ds : List Device} {lines : List StrandLine} {old old' new : List Counted} {line : StrandLine} {h : Hosted X} {ds' : List Device} {stage : Stage}
-    → old ≡ old' → TellsStrandLine follows due_at memory programs detaches ds lines old new line h ds' stage
-    → TellsStrandLine follows due_at memory programs detaches ds lines old' new line h ds' stage
-line_from {programs = programs} {new = new} {line = line} is t = record { stands = t.stands; met = t.met; takes = subst (λ (l : List Counted). TakesStrandCall programs line t.met l new) is t.takes }
+    {ds : List Device} {lines : List StrandLine} {tellers : List ProgramTeller} {old old' new : List Counted} {line : StrandLine} {h : Hosted X} {ds' : List Device} {stage : Stage}
+    → old ≡ old' → TellsStrandLine follows due_at memory programs detaches ds lines tellers old new line h ds' stage
+    → TellsStrandLine follows due_at memory programs detaches ds lines tellers old' new line h ds' stage
+line_from {programs = programs} {new = new} {line = line} is t = record { stands = t.stands; met = t.met; meets = t.meets; takes = subst (λ (l : List Counted). TakesStrandCall programs line t.met l new) is t.takes }

@@ -11,9 +11,9 @@ use Rattle.many_host.specs.Telling.{supply}
 use Rattle.strand_laws.specs.Strands.{strand_at}
 use Rattle.strand_laws.specs.StrandWorld.{StrandLine, StrandsInWorld, strand_program}
 use Rattle.strand_laws.specs.ToldStrands.{line_of}
-use Rattle.strand_host.specs.declared.turns.Stage.{Stage}
-use Rattle.strand_host.specs.declared.turns.Stage.TheVariants.{Between, Telling, Showing}
-use Rattle.strand_host.specs.declared.turns.StrandLine.{StrandLine as LineValue}
+use Rattle.strand_host.specs.declared.turn_taking.Stage.{Stage}
+use Rattle.strand_host.specs.declared.turn_taking.Stage.TheVariants.{Between, Telling, Showing}
+use Rattle.strand_host.specs.declared.turn_taking.StrandLine.{StrandLine as LineValue}
 
 -- a line of a world of strands, as the program has it
 abbrev pub strand_line_of : LineValue → StrandLine

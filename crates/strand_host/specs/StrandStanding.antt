@@ -1,5 +1,5 @@
 -- Several programs with strands of a world, as they are held between two lines.
-use Rattle.std.specs.Prelude.{◌≡◌, ◌≤◌, ◌<◌, ℕ, suc, List, [], ◌∷◌, ◌++◌, length, map, drop, Option, Some, None, Bool, true, false, if◌then◌else◌, MatchOption, slice_get}
+use Rattle.std.specs.Prelude.{◌≡◌, ◌≤◌, ◌<◌, ℕ, suc, List, [], ◌∷◌, ◌++◌, length, map, drop, Option, Some, None, Bool, true, false, if◌then◌else◌, nat_eq, MatchOption, slice_get}
 use Rattle.wa_model.specs.declared.answers.Detach.{Detach}
 use Rattle.wa_model.specs.Outside.{Event, paused, ended}
 use Rattle.wa_model.specs.Plan.{Outcome}
@@ -12,12 +12,12 @@ use Rattle.event_order.specs.Looks.{looks_of}
 use Rattle.many_host.specs.Standing.{looks_at}
 use Rattle.strand_laws.specs.StrandNotes.{TellsOnStrands}
 use Rattle.strand_laws.specs.StrandWorld.{StrandLine, StrandsInWorld}
-use Rattle.strand_laws.specs.ToldStrands.{ProgramTeller, TellsStrands, line_of, starting}
+use Rattle.strand_laws.specs.ToldStrands.{ProgramTeller, StrandTeller, TellsStrands, line_of, starting}
 use Rattle.strand_host.specs.StrandCalls.{TakesStrandCall, strand_line_of}
-use Rattle.strand_host.specs.declared.turns.Stage.{Stage}
-use Rattle.strand_host.specs.declared.turns.Stage.TheVariants.{Between, Telling, Showing}
-use Rattle.strand_host.specs.declared.turns.StrandLine.{StrandLine as LineValue}
-use Rattle.strand_host.specs.declared.turns.StrandTurns.{StrandTurns}
+use Rattle.strand_host.specs.declared.turn_taking.Stage.{Stage}
+use Rattle.strand_host.specs.declared.turn_taking.Stage.TheVariants.{Between, Telling, Showing}
+use Rattle.strand_host.specs.declared.turn_taking.StrandLine.{StrandLine as LineValue}
+use Rattle.strand_host.specs.declared.turn_taking.StrandTurns.{StrandTurns}
 
 -- The programs, when each is due, the devices to be taken out, what is shown behind ends, and how many events have begun.
 pub record Hosted (X : Type 0) : Type 0 where
@@ -68,26 +68,35 @@ pub record AreTelling {X : Type 0} (follows : X → StrandsInWorld → ProgramTe
   pub lines : List StrandLine
   pub stands : StrandsStanding follows due_at memory programs detaches devices lines h ds' stage
 
--- All programs have ended, and all their looks are out; the devices are as they were.
+-- The calls of a program's strand have met these outcomes more, and those of all others what they had.
+abbrev pub StrandsMeetMore : (program strand : ℕ) → (met : List Outcome) → (tellers tellers' : List ProgramTeller) → Type 0
+StrandsMeetMore program strand met tellers tellers' =
+    (i k : ℕ) (t t' : ProgramTeller) (s s' : StrandTeller) → slice_get tellers i ≡ Some t → slice_get tellers' i ≡ Some t' → slice_get t.strands k ≡ Some s → slice_get t'.strands k ≡ Some s'
+    → s'.met ≡ s.met ++ (if nat_eq i program then (if nat_eq k strand then met else []) else [])
+
+-- All programs have ended, which have told and met no more than they had, and all their looks are out; the devices are as they were.
 pub record AllStrandsTold {X : Type 0} (follows : X → StrandsInWorld → ProgramTeller → Type 0) (due_at : X → Option ℕ) (memory : X → List ℕ) (programs : List StrandsInWorld)
-    (detaches : List Detach) (ds : List Device) (lines : List StrandLine) (old new : List Counted) (h : Hosted X) (ds' : List Device) : Type 0 where
+    (detaches : List Detach) (ds : List Device) (lines : List StrandLine) (tellers : List ProgramTeller) (old new : List Counted) (h : Hosted X) (ds' : List Device) : Type 0 where
   pub stands : StrandsStanding follows due_at memory programs detaches ds lines h ds' Between
+  pub tellers_are : stands.tellers ≡ tellers
   pub have_ended : HaveEnded h.dues
   pub kept : new ≡ old
 
 -- This line more is told; its call met these outcomes, and left these devices and counts.
 pub record TellsStrandLine {X : Type 0} (follows : X → StrandsInWorld → ProgramTeller → Type 0) (due_at : X → Option ℕ) (memory : X → List ℕ) (programs : List StrandsInWorld)
-    (detaches : List Detach) (ds : List Device) (lines : List StrandLine) (old new : List Counted) (line : StrandLine) (h : Hosted X) (ds' : List Device) (stage : Stage) : Type 0 where
+    (detaches : List Detach) (ds : List Device) (lines : List StrandLine) (tellers : List ProgramTeller) (old new : List Counted) (line : StrandLine) (h : Hosted X) (ds' : List Device)
+    (stage : Stage) : Type 0 where
   pub stands : StrandsStanding follows due_at memory programs detaches ds (lines ++ line ∷ []) h ds' stage
   pub met : List Outcome
+  pub meets : StrandsMeetMore line.program line.strand met tellers stands.tellers
   pub takes : TakesStrandCall programs line met old new
 
 -- One line more is told, by devices that were these or, where an event began with it, those that are left; or there is none more.
 abbrev pub TellsNextLine : {X : Type 0} → (X → StrandsInWorld → ProgramTeller → Type 0) → (X → Option ℕ) → (X → List ℕ) → List StrandsInWorld → List Detach → List Device → List StrandLine
-    → (old left new : List Counted) → StrandTurns X → List Device → Option LineValue → Type 0
-TellsNextLine follows due_at memory programs detaches ds lines old left new h ds' result =
-    MatchOption result (AllStrandsTold follows due_at memory programs detaches ds lines old new (hosted_of h) ds')
-    (λ line. TellsStrandLine follows due_at memory programs detaches ds lines left new (strand_line_of line) (hosted_of h) ds' h.stage)
+    → List ProgramTeller → (old left new : List Counted) → StrandTurns X → List Device → Option LineValue → Type 0
+TellsNextLine follows due_at memory programs detaches ds lines tellers old left new h ds' result =
+    MatchOption result (AllStrandsTold follows due_at memory programs detaches ds lines tellers old new (hosted_of h) ds')
+    (λ line. TellsStrandLine follows due_at memory programs detaches ds lines tellers left new (strand_line_of line) (hosted_of h) ds' h.stage)
 
 -- The programs of a world where they begin, of which none has told anything yet.
 pub record AllStrandsStart {X : Type 0} (follows : X → StrandsInWorld → ProgramTeller → Type 0) (shows : List Show) (programs : List StrandsInWorld) (xs : List X) : Type 0 where

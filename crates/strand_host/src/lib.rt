@@ -2,8 +2,8 @@
 #![tactic(auto)]
 
 mod strand_event;
-mod turns;
+mod turn_taking;
 mod weaver;
 
 pub use strand_event::StrandEvent;
-pub use turns::StrandLine;
+pub use turn_taking::StrandLine;

@@ -11,7 +11,7 @@ use Rattle.many_host.proofs.TurnPlaces.{stands_at}
 use Rattle.strand_host.specs.StrandStanding.{hosted_of}
 use Rattle.strand_host.proofs.StrandShown.{all_shown, begun_behind, looks_left, none_out, shown_line}
 use Rattle.strand_host.proofs.StrandTold.{line_from}
-use Rattle.strand_host.proofs.turns.StrandTurns.show.Goals as goal
+use Rattle.strand_host.proofs.turn_taking.StrandTurns.show.Goals as goal
 
 pub returns-in_default-clause-told : goal.returns-in_default-clause-told
 returns-in_default-clause-told g c = λ gs detaches ds lines s.

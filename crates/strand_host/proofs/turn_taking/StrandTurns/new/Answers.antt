@@ -1,6 +1,6 @@
 use Rattle.std.proofs.Common.{◌∙◌, ap, map, refl}
 use Rattle.strand_host.proofs.StrandBegun.{stands_first}
-use Rattle.strand_host.proofs.turns.StrandTurns.new.Goals as goal
+use Rattle.strand_host.proofs.turn_taking.StrandTurns.new.Goals as goal
 
 pub returns-clause-stands : goal.returns-clause-stands
 returns-clause-stands g c = λ gs ds s.

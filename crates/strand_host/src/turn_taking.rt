@@ -81,8 +81,8 @@ impl<T: Weaver + Drop> StrandTurns<T> {
         ensures range { IfOk result (λ line. AreInRange self.new) }
         ensures same_list { devices.new.list.ghost_name ≡ devices.old.list.ghost_name }
         ensures told { (gs : List StrandsInWorld) (detaches : List Detach) (ds : List Device) (lines : List WorldLine)
-            → StrandsStanding T.follows T.due_at T.memory gs detaches ds lines (hosted_of self.old) (of_all seen devices.old) self.old.stage
-            → IfOk result (TellsNextLine T.follows T.due_at T.memory gs detaches ds lines (of_all (λ d. record { device = seen d; faults = faults d }) devices.old)
+            (s : StrandsStanding T.follows T.due_at T.memory gs detaches ds lines (hosted_of self.old) (of_all seen devices.old) self.old.stage)
+            → IfOk result (TellsNextLine T.follows T.due_at T.memory gs detaches ds lines s.tellers (of_all (λ d. record { device = seen d; faults = faults d }) devices.old)
             (left_at self.old.begun self.new.begun detaches (of_all (λ d. record { device = seen d; faults = faults d }) devices.old))
             (of_all (λ d. record { device = seen d; faults = faults d }) devices.new) self.new (of_all seen devices.new)) }
         ensures left { (gs : List StrandsInWorld) (detaches : List Detach) (ds : List Device) (lines : List WorldLine)
@@ -110,8 +110,8 @@ impl<T: Weaver + Drop> StrandTurns<T> {
         ensures range { IfOk result (λ line. AreInRange self.new) }
         ensures same_list { devices.new.list.ghost_name ≡ devices.old.list.ghost_name }
         ensures told { (gs : List StrandsInWorld) (detaches : List Detach) (ds : List Device) (lines : List WorldLine)
-            → StrandsStanding T.follows T.due_at T.memory gs detaches ds lines (hosted_of self.old) (of_all seen devices.old) Stage.Between
-            → IfOk result (TellsNextLine T.follows T.due_at T.memory gs detaches ds lines (of_all (λ d. record { device = seen d; faults = faults d }) devices.old)
+            (s : StrandsStanding T.follows T.due_at T.memory gs detaches ds lines (hosted_of self.old) (of_all seen devices.old) Stage.Between)
+            → IfOk result (TellsNextLine T.follows T.due_at T.memory gs detaches ds lines s.tellers (of_all (λ d. record { device = seen d; faults = faults d }) devices.old)
             (left_at self.old.begun self.new.begun detaches (of_all (λ d. record { device = seen d; faults = faults d }) devices.old))
             (of_all (λ d. record { device = seen d; faults = faults d }) devices.new) self.new (of_all seen devices.new)) }
         ensures left { (gs : List StrandsInWorld) (detaches : List Detach) (ds : List Device) (lines : List WorldLine)
@@ -141,8 +141,8 @@ impl<T: Weaver + Drop> StrandTurns<T> {
         ensures range { IfOk result (λ line. AreInRange self.new) }
         ensures same_list { devices.new.list.ghost_name ≡ devices.old.list.ghost_name }
         ensures told { (gs : List StrandsInWorld) (detaches : List Detach) (ds : List Device) (lines : List WorldLine)
-            → StrandsStanding T.follows T.due_at T.memory gs detaches ds lines (hosted_of self.old) (of_all seen devices.old) (Stage.Telling turn)
-            → IfOk result (λ line. TellsStrandLine T.follows T.due_at T.memory gs detaches ds lines (of_all (λ d. record { device = seen d; faults = faults d }) devices.old)
+            (s : StrandsStanding T.follows T.due_at T.memory gs detaches ds lines (hosted_of self.old) (of_all seen devices.old) (Stage.Telling turn))
+            → IfOk result (λ line. TellsStrandLine T.follows T.due_at T.memory gs detaches ds lines s.tellers (of_all (λ d. record { device = seen d; faults = faults d }) devices.old)
             (of_all (λ d. record { device = seen d; faults = faults d }) devices.new) (strand_line_of line) (hosted_of self.new) (of_all seen devices.new) self.new.stage) }
         ensures kept { IsErr result → of_all seen devices.new ≡ of_all seen devices.old }
         ensures once { IsErr result → RisesAtMostOne (of_all faults devices.old) (of_all faults devices.new) }
@@ -174,8 +174,8 @@ impl<T: Weaver + Drop> StrandTurns<T> {
         ensures range { IfOk result (λ line. AreInRange self.new) }
         ensures same_list { devices.new.list.ghost_name ≡ devices.old.list.ghost_name }
         ensures told { (gs : List StrandsInWorld) (detaches : List Detach) (ds : List Device) (lines : List WorldLine)
-            → StrandsStanding T.follows T.due_at T.memory gs detaches ds lines (hosted_of self.old) (of_all seen devices.old) (Stage.Showing turn from)
-            → IfOk result (TellsNextLine T.follows T.due_at T.memory gs detaches ds lines (of_all (λ d. record { device = seen d; faults = faults d }) devices.old)
+            (s : StrandsStanding T.follows T.due_at T.memory gs detaches ds lines (hosted_of self.old) (of_all seen devices.old) (Stage.Showing turn from))
+            → IfOk result (TellsNextLine T.follows T.due_at T.memory gs detaches ds lines s.tellers (of_all (λ d. record { device = seen d; faults = faults d }) devices.old)
             (left_at self.old.begun self.new.begun detaches (of_all (λ d. record { device = seen d; faults = faults d }) devices.old))
             (of_all (λ d. record { device = seen d; faults = faults d }) devices.new) self.new (of_all seen devices.new)) }
         ensures left { (gs : List StrandsInWorld) (detaches : List Detach) (ds : List Device) (lines : List WorldLine)

@@ -1,5 +1,5 @@
 use Rattle.std.proofs.Common.{◌≡◌, map, take}
-use Rattle.strand_host.proofs.turns.dues_of.Given as goal
+use Rattle.strand_host.proofs.turn_taking.dues_of.Given as goal
 
 -- those of the programs so far
 abbrev pub invariant-loop-program : goal.invariant-loop-program

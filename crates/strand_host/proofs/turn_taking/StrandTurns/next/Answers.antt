@@ -2,12 +2,12 @@ use Rattle.std.proofs.Common.{◌≡◌, inl, refl, subst, sym}
 use Rattle.std.specs.Prelude.{IfOk}
 use Rattle.wa_model.specs.View.{event_of}
 use Rattle.many_host.proofs.Counts.{are_left, left_kept}
-use Rattle.strand_host.specs.declared.turns.Stage.{Stage}
+use Rattle.strand_host.specs.declared.turn_taking.Stage.{Stage}
 use Rattle.strand_host.specs.StrandCalls.{BegunNext, BegunWith}
 use Rattle.strand_host.specs.StrandStanding.{AreLooksOut, hosted_of}
 use Rattle.strand_host.proofs.StrandBegun.{standing}
 use Rattle.strand_host.proofs.StrandTold.{line_from}
-use Rattle.strand_host.proofs.turns.StrandTurns.next.Goals as goal
+use Rattle.strand_host.proofs.turn_taking.StrandTurns.next.Goals as goal
 
 pub returns-in-Between-clause-told : goal.returns-in-Between-clause-told
 returns-in-Between-clause-told g c = λ gs detaches ds lines s.

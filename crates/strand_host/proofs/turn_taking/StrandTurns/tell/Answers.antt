@@ -6,7 +6,7 @@ use Rattle.many_host.proofs.Counts.{counted_devices, counted_faults}
 use Rattle.many_host.proofs.TurnPlaces.{stands_at}
 use Rattle.strand_host.specs.StrandStanding.{hosted_of}
 use Rattle.strand_host.proofs.StrandTold.{follows_now, line_told, none_of}
-use Rattle.strand_host.proofs.turns.StrandTurns.tell.Goals as goal
+use Rattle.strand_host.proofs.turn_taking.StrandTurns.tell.Goals as goal
 
 pub returns-clause-told : goal.returns-clause-told
 returns-clause-told g c = λ gs detaches ds lines s.

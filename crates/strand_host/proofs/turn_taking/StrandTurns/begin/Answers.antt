@@ -5,7 +5,15 @@ use Rattle.strand_host.specs.StrandStanding.{hosted_of}
 use Rattle.strand_host.proofs.FewStrandEvents.{few_events}
 use Rattle.strand_host.proofs.StrandBegun.{begun_at, due_within}
 use Rattle.strand_host.proofs.StrandTold.{line_from}
-use Rattle.strand_host.proofs.turns.StrandTurns.begin.Goals as goal
+use Rattle.strand_host.proofs.turn_taking.StrandTurns.begin.Goals as goal
+
+pub returns-in_default-clause-told : goal.returns-in_default-clause-told
+returns-in_default-clause-told g c = λ gs detaches ds lines s. record {
+  stands = s;
+  tellers_are = refl;
+  have_ended = subst (λ (l : List (Option ℕ)). HaveEnded l) c.deref.ensures.value c.in_default.ensures;
+  kept = refl;
+}
 
 pub overflow_add-begun : goal.overflow_add-begun
 overflow_add-begun g c =
