@@ -71,7 +71,7 @@ func_entered n p area funcs e h = sym (told_of (first_fault p area (run_entry �
 abbrev with_parts : Module → List Value → List NamedEntry → List ℕ → Area → Option (List Bool) → ℕ → List AnswerLine → W.Program
 with_parts p globals entries funcs area listed steps answers = record {
   source = p;
-  plan = record { globals = globals; entries = calls_of entries funcs; area = area; listed = listed };
+  plan = record { globals = globals; entries = calls_of entries funcs; area = area; others = []; listed = listed };
   steps = steps;
   answers = answers;
   binds = [];

@@ -28,6 +28,7 @@ run_plan n = record {
   globals = [];
   entries = record { func = n; args = V.I32 7 ∷ [] } ∷ [];
   area = record { at = 0; len = 65536 };
+  others = [];
   listed = Some (true ∷ []);
 }
 

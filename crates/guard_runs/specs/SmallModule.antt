@@ -114,7 +114,7 @@ store = record { globals = V.I32 0 ∷ V.I32 0 ∷ []; memory = replicate 80 7; 
 
 -- a plan with this area
 abbrev pub plan : Plan
-plan = record { globals = []; entries = []; area = setting.area; listed = None }
+plan = record { globals = []; entries = []; area = setting.area; others = []; listed = None }
 
 -- the entry is the function
 abbrev pub entry : Entry

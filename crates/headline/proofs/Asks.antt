@@ -13,6 +13,7 @@ use Rattle.headline.specs.FlatLaw.{FlatAsks, FlatLaw}
 use Rattle.run_laws.proofs.Keeping.{same_refl}
 use Rattle.std.proofs.Common.{All, Bool, List, None, Option, Some, [], ap, arith, false, length, refl, subst, suc, sym, true, zero, ℕ, ◌*◌, ◌+◌, ◌<◌, ◌∙◌, ◌∷◌, ◌≡◌, ◌≤◌}
 use Rattle.run_theory.proofs.QuietRuns.{at_calls}
+use Rattle.run_theory.proofs.TestedPokes.{passes_area}
 use Rattle.std.specs.Option.{option_to_list}
 use Rattle.wa_model.specs.Blocking.{Left, Note, State, Task, asked, bad_pause, bad_poke, bad_value, by_step, call_note, ends_at_call, fault_of, go_on, halts, import_traps, inside, is_start, is_unlisted, note, or_else, pause_of, poked, resumed, runs, tested, with_outcomes}
 use Rattle.wa_model.specs.Configuration.{Configuration, stack_of}
@@ -42,21 +43,15 @@ pub by_said : {X : Type 0} (said : Said) → ((v : Option Value) → said ≡ S.
 by_said (S.Value v) value trap = value v refl
 by_said S.Trap value trap = trap refl
 
--- an answer without a fault has no bad poke
 else_none : (a b : Option End) → or_else a b ≡ None → (a ≡ None) × (b ≡ None)
 else_none None b h = (refl, h)
 else_none (Some e) b h = cc
 
-pub no_bad_poke : (types : List ValType) (size : ℕ) (plan : Plan) (start : Bool) (i : ℕ) (a : Answer) → fault_of types size plan start i a ≡ None → bad_poke size plan.area a.pokes ≡ None
-no_bad_poke types size plan start i a h =
-    let q = else_none (bad_value types i a.said) (or_else (bad_poke size plan.area a.pokes) (bad_pause start (is_unlisted plan.listed i) i a.ticks)) h in
-    (else_none (bad_poke size plan.area a.pokes) (bad_pause start (is_unlisted plan.listed i) i a.ticks) q.1).0
-
--- nor does it pause inside the start function
+-- an answer without a fault doesn't pause inside the start function
 pub no_pause_in_start : (types : List ValType) (size : ℕ) (plan : Plan) (i : ℕ) (a : Answer) → fault_of types size plan true i a ≡ None → pause_of a.ticks ≡ None
 no_pause_in_start types size plan i a h =
-    let q = else_none (bad_value types i a.said) (or_else (bad_poke size plan.area a.pokes) (bad_pause true (is_unlisted plan.listed i) i a.ticks)) h in
-    by_ticks a.ticks (else_none (bad_poke size plan.area a.pokes) (bad_pause true (is_unlisted plan.listed i) i a.ticks) q.1).1
+    let q = else_none (bad_value types i a.said) (or_else (bad_poke size (plan.area ∷ plan.others) a.pokes) (bad_pause true (is_unlisted plan.listed i) i a.ticks)) h in
+    by_ticks a.ticks (else_none (bad_poke size (plan.area ∷ plan.others) a.pokes) (bad_pause true (is_unlisted plan.listed i) i a.ticks) q.1).1
   where
     by_ticks : (t : ℕ) → bad_pause true (is_unlisted plan.listed i) i t ≡ None → pause_of t ≡ None
     by_ticks zero e = refl
@@ -66,8 +61,8 @@ no_pause_in_start types size plan i a h =
 pub pause_allowed : (types : List ValType) (size : ℕ) (plan : Plan) (start : Bool) (i : ℕ) (a : Answer) (ticks : ℕ) → fault_of types size plan start i a ≡ None → pause_of a.ticks ≡ Some ticks
     → is_unlisted plan.listed i ≡ false
 pause_allowed types size plan start i a ticks h et =
-    let q = else_none (bad_value types i a.said) (or_else (bad_poke size plan.area a.pokes) (bad_pause start (is_unlisted plan.listed i) i a.ticks)) h in
-    by start (is_unlisted plan.listed i) a.ticks (else_none (bad_poke size plan.area a.pokes) (bad_pause start (is_unlisted plan.listed i) i a.ticks) q.1).1 et
+    let q = else_none (bad_value types i a.said) (or_else (bad_poke size (plan.area ∷ plan.others) a.pokes) (bad_pause start (is_unlisted plan.listed i) i a.ticks)) h in
+    by start (is_unlisted plan.listed i) a.ticks (else_none (bad_poke size (plan.area ∷ plan.others) a.pokes) (bad_pause start (is_unlisted plan.listed i) i a.ticks) q.1).1 et
   where
     by : (s u : Bool) (t : ℕ) → bad_pause s u i t ≡ None → pause_of t ≡ Some ticks → u ≡ false
     by s u zero e p = cc
@@ -193,7 +188,7 @@ module _ (w : World) (ft : WorldFits w) (sl : StoreLaws w) (L : (top spare : ℕ
           → AnswerFits a → fault a ≡ None
           → Given_on lo (poked d.store a.pokes) (resumed d (poked d.store a.pokes) (option_to_list v)) (resumed bw (poked bw.store a.pokes) (option_to_list v))
       give lo a v f bw told wt like us fits ef =
-          let alike2 = sl.poked_too top d.store bw.store a like (no_bad_poke (func_type_at (base w) i).results (length d.store.memory) w.plan (is_start task) i a ef) in
+          let alike2 = sl.poked_too top d.store bw.store a like (passes_area (func_type_at (base w) i).results (length d.store.memory) w.plan (is_start task) i a ef) in
           let nr = answers_go_on (sides w top) (poked d.store a.pokes) (poked bw.store a.pokes) i f.here bw.here f.under bw.under (option_to_list v)
           (together (setting w top) (ft.paired top)) alike2 us in
           let fo = law.answered top i d f (is_start task) a v wt fits told ef in
@@ -206,7 +201,7 @@ module _ (w : World) (ft : WorldFits w) (sl : StoreLaws w) (L : (top spare : ℕ
           → O (sh w (tested (base w) k i args (inside task d) (with_outcomes l os) a None))
       at_once a v os told eo ef et =
           let lo = with_outcomes l os in
-          let alike2 = sl.poked_too top d.store (cd.at).store a cd.alike (no_bad_poke (func_type_at (base w) i).results (length d.store.memory) w.plan (is_start task) i a ef) in
+          let alike2 = sl.poked_too top d.store (cd.at).store a cd.alike (passes_area (func_type_at (base w) i).results (length d.store.memory) w.plan (is_start task) i a ef) in
           let same2 = sl.same_end top (poked d.store a.pokes) (poked (cd.at).store a.pokes) alike2 in
           let quiet2 = quiet_there w top (poked d.store a.pokes) (poked (cd.at).store a.pokes) alike2 in
           let gv = give lo a v cd.flat_at cd.at told cd.waits cd.alike cd.stack (answer_fits a os eo) ef in
@@ -231,7 +226,7 @@ module _ (w : World) (ft : WorldFits w) (sl : StoreLaws w) (L : (top spare : ℕ
           → O (sh w (tested (base w) k i args (inside task d) (with_outcomes l os) a None))
       traps_there a os told eo ef et =
           let lo = with_outcomes l os in
-          let alike2 = sl.poked_too top d.store (cd.at).store a cd.alike (no_bad_poke (func_type_at (base w) i).results (length d.store.memory) w.plan (is_start task) i a ef) in
+          let alike2 = sl.poked_too top d.store (cd.at).store a cd.alike (passes_area (func_type_at (base w) i).results (length d.store.memory) w.plan (is_start task) i a ef) in
           let same2 = sl.same_end top (poked d.store a.pokes) (poked (cd.at).store a.pokes) alike2 in
           let quiet2 = quiet_there w top (poked d.store a.pokes) (poked (cd.at).store a.pokes) alike2 in
           let mv = tested_now a os None eo ef ∙ ap (held_tested w.written (xp w) w.plan cd.j i args (inside task cd.at) lo a None) et

@@ -36,7 +36,7 @@ no_import = []
 
 -- the plan with an empty area, which lets no import pause
 abbrev pub emptied : Plan → Plan
-emptied plan = record { globals = plan.globals; entries = plan.entries; area = nowhere; listed = Some [] }
+emptied plan = record { globals = plan.globals; entries = plan.entries; area = nowhere; others = plan.others; listed = Some [] }
 
 -- ---- it asks nothing
 

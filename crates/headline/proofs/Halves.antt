@@ -73,7 +73,7 @@ module _ (w : World) (ft : WorldFits w) (sl : StoreLaws w) (L : (top spare : ℕ
     pub within : cost ≤ 29 + length e.args + 2 * length (z.v).site.slots + rewinding_all z.v z.vs
 
   pub comes_back : (top i : ℕ) (e : Entry) (a : Answer) (lo : Left) (d : Configuration) (z : Hangs top i e d) (s s' : Store) → Alike (setting w top) s s' → 8 ≤ w.plan.area.len
-      → length s.memory < 2 ^ 32 → SuspendedIn w.plan.area s' (z.v ∷ z.vs) → bad_poke (length s.memory) w.plan.area a.pokes ≡ None → Back top i e a lo d z s s'
+      → length s.memory < 2 ^ 32 → SuspendedIn w.plan.area s' (z.v ∷ z.vs) → bad_poke (length s.memory) (w.plan.area ∷ []) a.pokes ≡ None → Back top i e a lo d z s s'
   comes_back top i e a lo d z s s' like wide small sus no_bad =
       let ar = w.plan.area in
       let same = sl.same_end top s s' like in
@@ -127,7 +127,7 @@ module _ (w : World) (ft : WorldFits w) (sl : StoreLaws w) (L : (top spare : ℕ
         answers = an.tells;
         seen = same5;
         like = alike4;
-        kept = sl.poked_area s' an.store a an.lowered wide (subst (λ u. bad_poke u ar a.pokes ≡ None) size4 no_bad);
+        kept = sl.poked_area s' an.store a an.lowered wide (subst (λ u. bad_poke u (ar ∷ []) a.pokes ≡ None) size4 no_bad);
         new = fa.new;
         same_flat = fa.same;
         stopped = fa.stopped;

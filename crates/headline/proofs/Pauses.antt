@@ -1,4 +1,5 @@
 -- A call whose answer pauses: one move of the shown blocking machine, with three notes, or two where the frames don't fit.
+use Rattle.run_theory.proofs.TestedPokes.{passes_area}
 use Rattle.headline.specs.FlatLaw.{AllLocalsFit, AllWeigh, FlatLaw, FlatStands}
 use Rattle.headline.specs.World.{World, WorldFits, base, setting}
 use Rattle.headline.specs.Halts.{HaltLaw, HaltsIn, PausesKnown, StackKnown, room_in, used_in}
@@ -13,7 +14,7 @@ use Rattle.guard_runs.specs.Returned.{AllSameFlat}
 use Rattle.guard_runs.proofs.StoppedStacks.{stops_law, waits_law}
 use Rattle.guard_runs.specs.Alike.{Alike}
 use Rattle.guard_runs.specs.Stopped.{Stopped}
-use Rattle.headline.proofs.Asks.{Called, Given_on, answer_fits, by_said, give, left_fits, no_bad_poke, pause_allowed, same_d, tested_now, went_on}
+use Rattle.headline.proofs.Asks.{Called, Given_on, answer_fits, by_said, give, left_fits, pause_allowed, same_d, tested_now, went_on}
 use Rattle.headline.proofs.FlatStretches.{Sil, Sm, gl, pr, sides, xp}
 use Rattle.headline.specs.StoreLaws.{StoreLaws}
 use Rattle.headline.specs.Told.{answer_notes, goes_on_told}
@@ -379,7 +380,7 @@ module _ (w : World) (ft : WorldFits w) (sl : StoreLaws w) (L : (top spare : ℕ
         is_top = is_top;
       } in
       let b4 : Held = calling (rewinds e i a pa.store) pa.store (xp w).start_rewind (V.I32 ar.at ∷ []) call_again lo in
-      let no_bad = no_bad_poke (func_type_at (base w) i).results (length d.store.memory) w.plan false i a ef in
+      let no_bad = passes_area (func_type_at (base w) i).results (length d.store.memory) w.plan false i a ef in
       let bk : Back w ft sl L W G law top i e a lo d hangs d.store pa.store = comes_back w ft sl L W G law top i e a lo d hangs d.store pa.store alike3 wide small pa.suspended no_bad in
       let y2 : Note = note (paused a.ticks (8 + total_size (z.v ∷ z.vs))) pa.store in
       let sus = pa.suspended in

@@ -199,7 +199,7 @@ bound_above m n = by 0
     by : (x : ℕ) → n ≤ 256 * (n + 1) + x
     by x = omega arith
 
-module _ (m p : Module) (plan : Plan) (bad : Answer) (rest us os : List Outcome) (unpaused : bad.ticks ≡ 0) (poking : (size : ℕ) → bad_poke size plan.area bad.pokes ≡ None → ⊥)
+module _ (m p : Module) (plan : Plan) (bad : Answer) (rest us os : List Outcome) (unpaused : bad.ticks ≡ 0) (poking : (size : ℕ) → bad_poke size (plan.area ∷ plan.others) bad.pokes ≡ None → ⊥)
     (is : os ≡ us ++ (given bad ∷ rest)) (calm : All (Calm plan) us) (alike : (j : ℕ) → RunsAlike m p (emptied plan) os j) (n : ℕ) where
   abbrev w : Event → (size : ℕ) → Option End
   w = why plan bad rest unpaused poking

@@ -32,11 +32,11 @@ abbrev is_bad_answer : End → Bool
 is_bad_answer (BadAnswer i v) = true
 is_bad_answer _ = false
 
-bad_poke_is : (size : ℕ) (area : Area) (ps : List Poke) (e : End) → bad_poke size area ps ≡ Some e → is_bad_answer e ≡ false
-bad_poke_is size area [] e h = cc
-bad_poke_is size area (p ∷ ps) e h = by (poke_fits size area p) (λ q. bad_poke_is size area ps e q) h
+bad_poke_is : (size : ℕ) (areas : List Area) (ps : List Poke) (e : End) → bad_poke size areas ps ≡ Some e → is_bad_answer e ≡ false
+bad_poke_is size areas [] e h = cc
+bad_poke_is size areas (p ∷ ps) e h = by (poke_fits size areas p) (λ q. bad_poke_is size areas ps e q) h
   where
-    by : (b : Bool) → (bad_poke size area ps ≡ Some e → is_bad_answer e ≡ false) → (if b then bad_poke size area ps else Some (BadPoke p.at (length p.bytes))) ≡ Some e → is_bad_answer e ≡ false
+    by : (b : Bool) → (bad_poke size areas ps ≡ Some e → is_bad_answer e ≡ false) → (if b then bad_poke size areas ps else Some (BadPoke p.at (length p.bytes))) ≡ Some e → is_bad_answer e ≡ false
     by true ih q = ih q
     by false ih q = let z : BadPoke p.at (length p.bytes) ≡ e = cc in ap is_bad_answer (sym z)
 
@@ -44,14 +44,14 @@ done_calls : (s : Store) (es : List Entry) → calls (done_notes s es) ≡ 0
 done_calls s [] = refl
 done_calls s (e ∷ es) = refl
 
-module _ (plan : Plan) (bad : Answer) (rest : List Outcome) (unpaused : bad.ticks ≡ 0) (poking : (size : ℕ) → bad_poke size plan.area bad.pokes ≡ None → ⊥) where
+module _ (plan : Plan) (bad : Answer) (rest : List Outcome) (unpaused : bad.ticks ≡ 0) (poking : (size : ℕ) → bad_poke size (plan.area ∷ plan.others) bad.pokes ≡ None → ⊥) where
   abbrev by_answer : Bool → End → Option End → Option End
   by_answer true e o = Some e
   by_answer false e o = o
 
   abbrev pub why : Event → (size : ℕ) → Option End
-  why (ended how) size = by_answer (is_bad_answer how) how (bad_poke size plan.area bad.pokes)
-  why _ size = bad_poke size plan.area bad.pokes
+  why (ended how) size = by_answer (is_bad_answer how) how (bad_poke size (plan.area ∷ plan.others) bad.pokes)
+  why _ size = bad_poke size (plan.area ∷ plan.others) bad.pokes
 
   -- so many outcomes are left in front of it
   pub record Before (k : ℕ) (os : List Outcome) : Type 0 where
@@ -68,18 +68,18 @@ module _ (plan : Plan) (bad : Answer) (rest : List Outcome) (unpaused : bad.tick
   record Tests (types : List ValType) (size : ℕ) (i : ℕ) (o o' : Option End) : Type 0 where
     e : End
     first : o ≡ Some e
-    second : ((how : End) × (o' ≡ Some how) × (why (ended how) size ≡ Some e)) ⊎ ((o' ≡ None) × (bad_poke size plan.area bad.pokes ≡ Some e))
+    second : ((how : End) × (o' ≡ Some how) × (why (ended how) size ≡ Some e)) ⊎ ((o' ≡ None) × (bad_poke size (plan.area ∷ plan.others) bad.pokes ≡ Some e))
 
   tests : (types : List ValType) (size : ℕ) (start : Bool) (i : ℕ) → Tests types size i (fault_of types size plan start i bad) (fault_of types size (emptied plan) start i bad)
   tests types size start i =
-      subst (λ z. Tests types size i (or_else (bad_value types i bad.said) (or_else (bad_poke size plan.area bad.pokes) z))
+      subst (λ z. Tests types size i (or_else (bad_value types i bad.said) (or_else (bad_poke size (plan.area ∷ plan.others) bad.pokes) z))
       (fault_of types size (emptied plan) start i bad)) (sym (no_pause start (is_unlisted plan.listed i) i bad.ticks unpaused))
-      (subst (λ z. Tests types size i (or_else (bad_value types i bad.said) (or_else (bad_poke size plan.area bad.pokes) None))
-      (or_else (bad_value types i bad.said) (or_else (bad_poke size nowhere bad.pokes) z)))
+      (subst (λ z. Tests types size i (or_else (bad_value types i bad.said) (or_else (bad_poke size (plan.area ∷ plan.others) bad.pokes) None))
+      (or_else (bad_value types i bad.said) (or_else (bad_poke size (nowhere ∷ plan.others) bad.pokes) z)))
       (sym (no_pause start (is_unlisted (Some []) i) i bad.ticks unpaused))
-      (by_said bad.said (bad_poke size plan.area bad.pokes) refl (bad_poke size nowhere bad.pokes) refl))
+      (by_said bad.said (bad_poke size (plan.area ∷ plan.others) bad.pokes) refl (bad_poke size (nowhere ∷ plan.others) bad.pokes) refl))
     where
-      by : (v : Option Value) (b : Bool) (pa : Option End) → bad_poke size plan.area bad.pokes ≡ pa → (pe : Option End) → bad_poke size nowhere bad.pokes ≡ pe
+      by : (v : Option Value) (b : Bool) (pa : Option End) → bad_poke size (plan.area ∷ plan.others) bad.pokes ≡ pa → (pe : Option End) → bad_poke size (nowhere ∷ plan.others) bad.pokes ≡ pe
           → Tests types size i (or_else (if b then None else Some (BadAnswer i v)) (or_else pa None)) (or_else (if b then None else Some (BadAnswer i v)) (or_else pe None))
       by v b None ea pe ee = absurd (poking size ea)
       by v false (Some e) ea pe ee = record { e = BadAnswer i v; first = refl; second = inl (BadAnswer i v, refl, refl) }
@@ -87,10 +87,10 @@ module _ (plan : Plan) (bad : Answer) (rest : List Outcome) (unpaused : bad.tick
       by v true (Some e) ea (Some how) ee = record {
         e = e;
         first = refl;
-        second = inl (how, refl, ap (λ b. by_answer b how (bad_poke size plan.area bad.pokes)) (bad_poke_is size nowhere bad.pokes how ee) ∙ ea);
+        second = inl (how, refl, ap (λ b. by_answer b how (bad_poke size (plan.area ∷ plan.others) bad.pokes)) (bad_poke_is size (nowhere ∷ plan.others) bad.pokes how ee) ∙ ea);
       }
 
-      by_said : (said : Said) (pa : Option End) → bad_poke size plan.area bad.pokes ≡ pa → (pe : Option End) → bad_poke size nowhere bad.pokes ≡ pe
+      by_said : (said : Said) (pa : Option End) → bad_poke size (plan.area ∷ plan.others) bad.pokes ≡ pa → (pe : Option End) → bad_poke size (nowhere ∷ plan.others) bad.pokes ≡ pe
           → Tests types size i (or_else (bad_value types i said) (or_else pa None)) (or_else (bad_value types i said) (or_else pe None))
       by_said (SV.Value v) = by v (answers types v)
       by_said SV.Trap = by None true
@@ -133,7 +133,7 @@ module _ (plan : Plan) (bad : Answer) (rest : List Outcome) (unpaused : bad.tick
         subst (λ z. TP (tested m c i args w l bad z) (tested m c i args w l bad o')) (sym t.first) (by_second t.second)
       where
         by_second : ((how : End) × (o' ≡ Some how) × (why (ended how) (length (store_at w).memory) ≡ Some t.e)) ⊎ ((o' ≡ None)
-            × (bad_poke (length (store_at w).memory) plan.area bad.pokes ≡ Some t.e))
+            × (bad_poke (length (store_at w).memory) (plan.area ∷ plan.others) bad.pokes ≡ Some t.e))
             → TP (tested m c i args w l bad (Some t.e)) (tested m c i args w l bad o')
         by_second (inl h) = subst (λ z. TP (tested m c i args w l bad (Some t.e)) (tested m c i args w l bad z)) (sym h.1) (record {
           k = c;
@@ -156,7 +156,7 @@ module _ (plan : Plan) (bad : Answer) (rest : List Outcome) (unpaused : bad.tick
             (subst (λ z. TP (tested m c i args w l bad (Some t.e)) (go_on c (call_note i args (store_at w) (stack_at m w) z) bad.said (poked (store_at w) bad.pokes) l w))
             (sym (none_paused plan bad.ticks unpaused)) (by w bad.said h.1))
           where
-            by : (w : Asker) (said : Said) → bad_poke (length (store_at w).memory) plan.area bad.pokes ≡ Some t.e
+            by : (w : Asker) (said : Said) → bad_poke (length (store_at w).memory) (plan.area ∷ plan.others) bad.pokes ≡ Some t.e
                 → TP (tested m c i args w l bad (Some t.e)) (go_on c (call_note i args (store_at w) (stack_at m w) None) said (poked (store_at w) bad.pokes) l w)
             by (inside task d) (SV.Value v) q = record {
               k = c;
@@ -329,7 +329,7 @@ module _ (plan : Plan) (bad : Answer) (rest : List Outcome) (unpaused : bad.tick
         (subst (λ z. TPH (held_tested p x plan c i args w l bad z None) (held_tested p x (emptied plan) c i args w l bad o' None)) (sym t.first) (by_second t.second))
       where
         by_second : ((how : End) × (o' ≡ Some how) × (why (ended how) (length (store_at w).memory) ≡ Some t.e)) ⊎ ((o' ≡ None)
-            × (bad_poke (length (store_at w).memory) plan.area bad.pokes ≡ Some t.e))
+            × (bad_poke (length (store_at w).memory) (plan.area ∷ plan.others) bad.pokes ≡ Some t.e))
             → TPH (held_tested p x plan c i args w l bad (Some t.e) None) (held_tested p x (emptied plan) c i args w l bad o' None)
         by_second (inl h) = subst (λ z. TPH (held_tested p x plan c i args w l bad (Some t.e) None) (held_tested p x (emptied plan) c i args w l bad z None)) (sym h.1) (record {
           k = c;
@@ -350,7 +350,7 @@ module _ (plan : Plan) (bad : Answer) (rest : List Outcome) (unpaused : bad.tick
         by_second (inr h) =
             subst (λ z. TPH (held_tested p x plan c i args w l bad (Some t.e) None) (held_tested p x (emptied plan) c i args w l bad z None)) (sym h.0) (by w bad.said h.1)
           where
-            by : (w : Asker) (said : Said) → bad_poke (length (store_at w).memory) plan.area bad.pokes ≡ Some t.e
+            by : (w : Asker) (said : Said) → bad_poke (length (store_at w).memory) (plan.area ∷ plan.others) bad.pokes ≡ Some t.e
                 → TPH (held_tested p x plan c i args w l bad (Some t.e) None) (held_given c (call_note i args (store_at w) (stack_at p w) None) said (poked (store_at w) bad.pokes) l w)
             by (inside task d) (SV.Value v) q = record {
               k = c;

@@ -1,6 +1,7 @@
 -- Where no outcome pauses or pokes the area, runs don't depend on area and list.
 use Rattle.std.proofs.Common.{◌≡◌, ℕ, zero, suc, ◌+◌, ◌-◌, List, [], ◌∷◌, ◌++◌, length, Option, Some, None, Bool, true, false, All, refl, sym, ap, ◌∙◌, subst, ◌⊎◌, inl, inr}
 use Rattle.std.specs.Prelude.{if◌then◌else◌, nat_le, nat_lt, not, ◌&&◌}
+use Rattle.std.specs.List.{list_all}
 use Rattle.std.proofs.lemmas.List.Elements.{All-nil, All-cons, All-head, All-tail}
 use Rattle.wa_types.specs.Base.{Base}
 use Rattle.wa_types.specs.Modules.{func_imports, func_type_at, defined_at}
@@ -18,7 +19,7 @@ use Rattle.wa_model.specs.Plan.{Entry, Plan, Outcome, given, refused}
 use Rattle.wa_model.specs.Instantiation.{Opening, fails_as, opens, opening}
 use Rattle.wa_model.specs.Store.{Store}
 use Rattle.wa_model.specs.Step.{Next, steps, asks, returns, traps, stuck, step}
-use Rattle.wa_model.specs.Blocking.{Note, call_note, bad_value, bad_poke, bad_pause, fault_of, is_unlisted, or_else, overlap, pause_of, poked, poke_fits, Task, the_start, an_entry, Left, with_outcomes, Asker, inside, outermost, store_at, stack_at, in_start, State, between, begins, runs, halts, on_to, go_on, tested, asked, task_back, by_step, enters, enter_next, start_called, blocking, begun, all_left, Blocking}
+use Rattle.wa_model.specs.Blocking.{Note, call_note, bad_value, bad_poke, bad_pause, fault_of, is_off, is_unlisted, or_else, overlap, pause_of, poked, poke_fits, Task, the_start, an_entry, Left, with_outcomes, Asker, inside, outermost, store_at, stack_at, in_start, State, between, begins, runs, halts, on_to, go_on, tested, asked, task_back, by_step, enters, enter_next, start_called, blocking, begun, all_left, Blocking}
 use Rattle.wa_model.specs.Protocol.{Exports, exports_of, is_running, unwinds, rewinds, Held, free, starting, busy, calling, aside, entering, over, held_on, held_back, held_given, held_tested, held_asked, busy_step, busy_enters, held_next, held_start, protocol, held_begun, Protocol}
 use Rattle.wa_model.specs.Behaves.{NoTicks}
 use Rattle.headline.proofs.EmptyAreas.{emptied, nowhere, off_nowhere}
@@ -69,14 +70,14 @@ module _ (plan : Plan) where
   -- ---- tests
 
   same_pokes : (size : ℕ) (ps : List Poke) → All (λ (p : Poke). overlap p.at (length p.bytes) plan.area.at plan.area.len ≡ false) ps
-      → bad_poke size plan.area ps ≡ bad_poke size nowhere ps
+      → bad_poke size (plan.area ∷ plan.others) ps ≡ bad_poke size (nowhere ∷ plan.others) ps
   same_pokes size [] h = refl
   same_pokes size (p ∷ ps) h =
       let off = All-head (λ (p : Poke). overlap p.at (length p.bytes) plan.area.at plan.area.len ≡ false) p ps h in
-      let fit : poke_fits size plan.area p ≡ poke_fits size nowhere p =
-      ap (λ b. nat_le (p.at + length p.bytes) size && not b) (off ∙ sym (off_nowhere p.at (length p.bytes))) in
-      ap (λ b. if b then bad_poke size plan.area ps else Some (BadPoke p.at (length p.bytes))) fit
-      ∙ ap (λ o. if poke_fits size nowhere p then o else Some (BadPoke p.at (length p.bytes)))
+      let fit : poke_fits size (plan.area ∷ plan.others) p ≡ poke_fits size (nowhere ∷ plan.others) p =
+      ap (λ b. nat_le (p.at + length p.bytes) size && (not b && list_all (is_off p) plan.others)) (off ∙ sym (off_nowhere p.at (length p.bytes))) in
+      ap (λ b. if b then bad_poke size (plan.area ∷ plan.others) ps else Some (BadPoke p.at (length p.bytes))) fit
+      ∙ ap (λ o. if poke_fits size (nowhere ∷ plan.others) p then o else Some (BadPoke p.at (length p.bytes)))
       (same_pokes size ps (All-tail (λ (p : Poke). overlap p.at (length p.bytes) plan.area.at plan.area.len ≡ false) p ps h))
 
   pub same_pause : (start : Bool) (i t : ℕ) (u u' : Bool) → t ≡ 0 → bad_pause start u i t ≡ bad_pause start u' i t
@@ -86,7 +87,7 @@ module _ (plan : Plan) where
   pub same_fault : (types : List ValType) (size : ℕ) (start : Bool) (i : ℕ) (a : Answer) → Calm (given a) → fault_of types size plan start i a ≡ fault_of types size (emptied plan) start i a
   same_fault types size start i a h =
       ap (λ o. or_else (bad_value types i a.said) (or_else o (bad_pause start (is_unlisted plan.listed i) i a.ticks))) (same_pokes size a.pokes h.1)
-      ∙ ap (λ o. or_else (bad_value types i a.said) (or_else (bad_poke size nowhere a.pokes) o))
+      ∙ ap (λ o. or_else (bad_value types i a.said) (or_else (bad_poke size (nowhere ∷ plan.others) a.pokes) o))
       (same_pause start i a.ticks (is_unlisted plan.listed i) (is_unlisted (Some []) i) h.0)
 
   pub none_paused : (t : ℕ) → t ≡ 0 → pause_of t ≡ None
@@ -286,28 +287,29 @@ pub record Poking (plan : Plan) (os : List Outcome) : Type 0 where
   pub is : os ≡ us ++ (given bad ∷ rest)
   pub calm : All (Calm plan) us
   pub unpaused : bad.ticks ≡ 0
-  pub poking : (size : ℕ) → bad_poke size plan.area bad.pokes ≡ None → ⊥
+  pub poking : (size : ℕ) → bad_poke size (plan.area ∷ plan.others) bad.pokes ≡ None → ⊥
 
-pokes_or : (area : Area) (ps : List Poke) → (All (λ (p : Poke). overlap p.at (length p.bytes) area.at area.len ≡ false) ps) ⊎ ((size : ℕ) → bad_poke size area ps ≡ None → ⊥)
-pokes_or area [] = inl (All-nil (λ (p : Poke). overlap p.at (length p.bytes) area.at area.len ≡ false))
-pokes_or area (p ∷ ps) = by (overlap p.at (length p.bytes) area.at area.len) refl (pokes_or area ps)
+pokes_or : (area : Area) (others : List Area) (ps : List Poke)
+    → (All (λ (p : Poke). overlap p.at (length p.bytes) area.at area.len ≡ false) ps) ⊎ ((size : ℕ) → bad_poke size (area ∷ others) ps ≡ None → ⊥)
+pokes_or area others [] = inl (All-nil (λ (p : Poke). overlap p.at (length p.bytes) area.at area.len ≡ false))
+pokes_or area others (p ∷ ps) = by (overlap p.at (length p.bytes) area.at area.len) refl (pokes_or area others ps)
   where
-    still_none : (size : ℕ) → (b : Bool) → (if b then bad_poke size area ps else Some (BadPoke p.at (length p.bytes))) ≡ None → bad_poke size area ps ≡ None
+    still_none : (size : ℕ) → (b : Bool) → (if b then bad_poke size (area ∷ others) ps else Some (BadPoke p.at (length p.bytes))) ≡ None → bad_poke size (area ∷ others) ps ≡ None
     still_none size true e = e
     still_none size false e = cc
 
-    never_fits : (size : ℕ) (b : Bool) → (if b && not true then bad_poke size area ps else Some (BadPoke p.at (length p.bytes))) ≡ None → ⊥
+    never_fits : (size : ℕ) (b : Bool) → (if b && (not true && list_all (is_off p) others) then bad_poke size (area ∷ others) ps else Some (BadPoke p.at (length p.bytes))) ≡ None → ⊥
     never_fits size true e = cc
     never_fits size false e = cc
 
     by : (o : Bool) → overlap p.at (length p.bytes) area.at area.len ≡ o
-        → (All (λ (p : Poke). overlap p.at (length p.bytes) area.at area.len ≡ false) ps) ⊎ ((size : ℕ) → bad_poke size area ps ≡ None → ⊥)
-        → (All (λ (p : Poke). overlap p.at (length p.bytes) area.at area.len ≡ false) (p ∷ ps)) ⊎ ((size : ℕ) → bad_poke size area (p ∷ ps) ≡ None → ⊥)
+        → (All (λ (p : Poke). overlap p.at (length p.bytes) area.at area.len ≡ false) ps) ⊎ ((size : ℕ) → bad_poke size (area ∷ others) ps ≡ None → ⊥)
+        → (All (λ (p : Poke). overlap p.at (length p.bytes) area.at area.len ≡ false) (p ∷ ps)) ⊎ ((size : ℕ) → bad_poke size (area ∷ others) (p ∷ ps) ≡ None → ⊥)
     by true e r =
         inr (λ size h. never_fits size (nat_le (p.at + length p.bytes) size)
-        (ap (λ b. if nat_le (p.at + length p.bytes) size && not b then bad_poke size area ps else Some (BadPoke p.at (length p.bytes))) (sym e) ∙ h))
+        (ap (λ b. if nat_le (p.at + length p.bytes) size && (not b && list_all (is_off p) others) then bad_poke size (area ∷ others) ps else Some (BadPoke p.at (length p.bytes))) (sym e) ∙ h))
     by false e (inl h) = inl (All-cons (λ (p : Poke). overlap p.at (length p.bytes) area.at area.len ≡ false) p ps e h)
-    by false e (inr never) = inr (λ size h. never size (still_none size (poke_fits size area p) h))
+    by false e (inr never) = inr (λ size h. never size (still_none size (poke_fits size (area ∷ others) p) h))
 
 pub find_poking : (plan : Plan) (os : List Outcome) → All NoTicks os → All (Calm plan) os ⊎ Poking plan os
 find_poking plan [] h = inl (All-nil (Calm plan))
@@ -327,9 +329,9 @@ find_poking plan (o ∷ os) h = by o (All-head NoTicks o os h) (find_poking plan
 
     by : (o : Outcome) → NoTicks o → All (Calm plan) os ⊎ Poking plan os → All (Calm plan) (o ∷ os) ⊎ Poking plan (o ∷ os)
     by (refused e) t r = on (refused e) (t, tt) r
-    by (given a) t r = by_pokes (pokes_or plan.area a.pokes)
+    by (given a) t r = by_pokes (pokes_or plan.area plan.others a.pokes)
       where
-        by_pokes : (All (λ (p : Poke). overlap p.at (length p.bytes) plan.area.at plan.area.len ≡ false) a.pokes) ⊎ ((size : ℕ) → bad_poke size plan.area a.pokes ≡ None → ⊥)
+        by_pokes : (All (λ (p : Poke). overlap p.at (length p.bytes) plan.area.at plan.area.len ≡ false) a.pokes) ⊎ ((size : ℕ) → bad_poke size (plan.area ∷ plan.others) a.pokes ≡ None → ⊥)
             → All (Calm plan) (given a ∷ os) ⊎ Poking plan (given a ∷ os)
         by_pokes (inl h) = on (given a) (t, h) r
         by_pokes (inr never) = inr (record { us = []; bad = a; rest = os; is = refl; calm = All-nil (Calm plan); unpaused = t; poking = never })

@@ -1,10 +1,11 @@
 -- The simulation: each move of the shown blocking machine is matched under the protocol; with it, all that is owed.
+use Rattle.run_theory.proofs.TestedPokes.{passes_area}
 use Rattle.headline.specs.WrittenRuns.{WrittenLaw}
 use Rattle.headline.specs.World.{World, WorldFits, base, setting}
 use Rattle.guard_runs.proofs.EachStretch.{calls_begin}
 use Rattle.guard_runs.proofs.Stores.{together}
 use Rattle.guard_runs.specs.Alike.{Alike}
-use Rattle.headline.proofs.Asks.{asks_case, by_said, first_fits, no_bad_poke, no_pause_in_start, others_fit, pause_allowed, to_call}
+use Rattle.headline.proofs.Asks.{asks_case, by_said, first_fits, no_pause_in_start, others_fit, pause_allowed, to_call}
 use Rattle.headline.proofs.FlatStretches.{Sm, along, gl, other_top, pr, sides, xp}
 use Rattle.headline.specs.Given.{LetsPause}
 use Rattle.headline.specs.StoreLaws.{StoreLaws}
@@ -213,7 +214,7 @@ module _ (w : World) (ft : WorldFits w) (sl : StoreLaws w) (L : (top spare : ℕ
           no_pause = no_pause_in_start (func_type_at (base w) x).results (length s.memory) w.plan x a ef
 
           like2 : Alike (setting w 0) (poked s a.pokes) (poked s' a.pokes)
-          like2 = sl.poked_too 0 s s' a like (no_bad_poke (func_type_at (base w) x).results (length s.memory) w.plan true x a ef)
+          like2 = sl.poked_too 0 s s' a like (passes_area (func_type_at (base w) x).results (length s.memory) w.plan true x a ef)
 
           seen2 : Sm w (poked s a.pokes) (poked s' a.pokes)
           seen2 = sl.same_end 0 (poked s a.pokes) (poked s' a.pokes) like2

@@ -9,11 +9,12 @@ use Rattle.headline.proofs.TrapStores.{trap_keeps}
 use Rattle.guard_runs.specs.Pause.{AreaReady, SameAround}
 use Rattle.run_laws.proofs.Keeping.{same_on}
 use Rattle.std.proofs.Common.{Bool, List, None, Option, Some, [], ap, arith, drop, false, inl, inr, length, length-append, length-drop, refl, subst, suc, sym, take, true, zero, ℕ, ⊎_elim, ◌++◌, ◌+◌, ◌-◌, ◌<◌, ◌^◌, ◌∙◌, ◌∷◌, ◌≡◌, ◌≢◌, ◌≤◌, ◌⊎◌}
-use Rattle.std.proofs.lemmas.Bool.{and_parts, cases_lt}
+use Rattle.std.proofs.lemmas.Bool.{cases_lt}
 use Rattle.std.proofs.lemmas.List.{same_lists, take-append-drop, take_all}
 use Rattle.std.proofs.lemmas.Option.{slice_get-get_or}
-use Rattle.std.specs.Prelude.{get_or, if◌then◌else◌, nat_le, not, slice_get}
+use Rattle.std.specs.Prelude.{get_or, if◌then◌else◌, nat_le, slice_get}
 use Rattle.run_theory.proofs.GrownSteps.{front}
+use Rattle.run_theory.proofs.TestedPokes.{first_fits, fits_inside, fits_off}
 use Rattle.wa_model.specs.Behaves.{AreaKept}
 use Rattle.wa_model.specs.Blocking.{bad_poke, overlap, poke_fits, poked, poked_memory}
 use Rattle.wa_model.specs.Expected.{SameEnd}
@@ -21,7 +22,6 @@ use Rattle.wa_model.specs.Outside.{Poke}
 use Rattle.wa_model.specs.Protocol.{with_words}
 use Rattle.wa_model.specs.Store.{Store, value_at, with_memory}
 use Rattle.wa_model.specs.declared.answers.Area.{Area}
-use Rattle.wa_model.specs.declared.events.End.TheVariants.{BadPoke}
 use Rattle.wa_types.proofs.MemoryLemmas.{bytes_at-overwritten_behind, bytes_at-overwritten_below, length-bytes_of, length-overwritten}
 use Rattle.wa_types.specs.Memory.{bytes_at, bytes_of, overwritten, with_piece}
 use Rattle.wa_types.specs.Runtime.{global_space}
@@ -44,9 +44,6 @@ got_of [] zero = refl
 got_of [] (suc x) = refl
 got_of (y ∷ ys) zero = refl
 got_of (y ∷ ys) (suc x) = got_of ys x
-
-le_of : (a b : ℕ) → nat_le a b ≡ true → a ≤ b
-le_of a b h = grind arith
 
 -- ---- the same outside
 
@@ -94,10 +91,6 @@ words_same g area s least ins =
 off_area : (a n at len : ℕ) → 0 < n → overlap a n at len ≡ false → (len ≡ 0) ⊎ ((a + n ≤ at) ⊎ (at + len ≤ a))
 off_area a n at len pos e = grind arith
 
-not_true : (b : Bool) → not b ≡ true → b ≡ false
-not_true true e = cc
-not_true false e = refl
-
 nothing_written : (m : List ℕ) (a : ℕ) (piece : List ℕ) → length piece ≡ 0 → overwritten m a piece ≡ m
 nothing_written m a [] e = by (take-append-drop a m)
   where
@@ -110,12 +103,11 @@ nothing_written m a [] e = by (take-append-drop a m)
 nothing_written m a (x ∷ xs) e = absurd (omega arith)
 
 -- one poke
-poke_too : (v : Setting) (s s' : Store) (p : Poke) → Alike v s s' → poke_fits (length s.memory) v.area p ≡ true
+poke_too : (v : Setting) (s s' : Store) (p : Poke) → Alike v s s' → poke_fits (length s.memory) (v.area ∷ []) p ≡ true
     → Alike v (with_memory s (overwritten s.memory p.at p.bytes)) (with_memory s' (overwritten s'.memory p.at p.bytes))
 poke_too v s s' p h fits =
-    let q = and_parts (nat_le (p.at + length p.bytes) (length s.memory)) (not (overlap p.at (length p.bytes) v.area.at v.area.len)) fits in
-    let le = le_of (p.at + length p.bytes) (length s.memory) q.0 in
-    let off_it = not_true (overlap p.at (length p.bytes) v.area.at v.area.len) q.1 in
+    let le = fits_inside (length s.memory) (v.area ∷ []) p fits in
+    let off_it = fits_off (length s.memory) v.area [] p fits in
     ⊎_elim
     (λ pos. by_wrote pos le off_it (with_piece (h.low ++ (h.held ++ h.high)) p.at p.bytes) (with_piece (h.low ++ (h.held' ++ h.high)) p.at p.bytes) refl refl
     (put_too h.low h.held h.held' h.high (let n2 = h.held_size in let n3 = h.held_size' in omega arith) p.at p.bytes
@@ -198,14 +190,7 @@ poke_too v s s' p h fits =
         the_some : (x y : List ℕ) → Some x ≡ Some y → x ≡ y
         the_some x y e = cc
 
-fits_first : (size : ℕ) (area : Area) (p : Poke) (ps : List Poke) → bad_poke size area (p ∷ ps) ≡ None → (poke_fits size area p ≡ true) × (bad_poke size area ps ≡ None)
-fits_first size area p ps h = by (poke_fits size area p) h
-  where
-    by : (b : Bool) → (if b then bad_poke size area ps else Some (BadPoke p.at (length p.bytes))) ≡ None → (b ≡ true) × (bad_poke size area ps ≡ None)
-    by true e = (refl, e)
-    by false e = cc
-
-pokes_too : (v : Setting) (ps : List Poke) (s s' : Store) → Alike v s s' → bad_poke (length s.memory) v.area ps ≡ None → Alike v (poked s ps) (poked s' ps)
+pokes_too : (v : Setting) (ps : List Poke) (s s' : Store) → Alike v s s' → bad_poke (length s.memory) (v.area ∷ []) ps ≡ None → Alike v (poked s ps) (poked s' ps)
 pokes_too v [] s s' h none = record {
   own = h.own;
   more = h.more;
@@ -227,24 +212,22 @@ pokes_too v [] s s' h none = record {
   table' = h.table';
 }
 pokes_too v (p ∷ ps) s s' h none =
-    let f = fits_first (length s.memory) v.area p ps none in
+    let f = first_fits (length s.memory) (v.area ∷ []) p ps none in
     let one = poke_too v s s' p h f.0 in
-    let q = and_parts (nat_le (p.at + length p.bytes) (length s.memory)) (not (overlap p.at (length p.bytes) v.area.at v.area.len)) f.0 in
-    let n = length-overwritten s.memory p.at p.bytes (le_of (p.at + length p.bytes) (length s.memory) q.0) in
-    pokes_too v ps (with_memory s (overwritten s.memory p.at p.bytes)) (with_memory s' (overwritten s'.memory p.at p.bytes)) one (subst (λ k. bad_poke k v.area ps ≡ None) (sym n) f.1)
+    let n = length-overwritten s.memory p.at p.bytes (fits_inside (length s.memory) (v.area ∷ []) p f.0) in
+    pokes_too v ps (with_memory s (overwritten s.memory p.at p.bytes)) (with_memory s' (overwritten s'.memory p.at p.bytes)) one (subst (λ k. bad_poke k (v.area ∷ []) ps ≡ None) (sym n) f.1)
 
 -- bytes of the area stay
-pokes_off : (area : Area) (ps : List Poke) (m : List ℕ) (b n : ℕ) → 0 < n → bad_poke (length m) area ps ≡ None → area.at ≤ b → b + n ≤ area.at + area.len
+pokes_off : (area : Area) (ps : List Poke) (m : List ℕ) (b n : ℕ) → 0 < n → bad_poke (length m) (area ∷ []) ps ≡ None → area.at ≤ b → b + n ≤ area.at + area.len
     → bytes_at (poked_memory m ps) b n ≡ bytes_at m b n
 pokes_off area [] m b n pos none lo hi = refl
 pokes_off area (p ∷ ps) m b n pos none lo hi =
-    let f = fits_first (length m) area p ps none in
-    let q = and_parts (nat_le (p.at + length p.bytes) (length m)) (not (overlap p.at (length p.bytes) area.at area.len)) f.0 in
-    let le = le_of (p.at + length p.bytes) (length m) q.0 in
-    let off_it = not_true (overlap p.at (length p.bytes) area.at area.len) q.1 in
+    let f = first_fits (length m) (area ∷ []) p ps none in
+    let le = fits_inside (length m) (area ∷ []) p f.0 in
+    let off_it = fits_off (length m) area [] p f.0 in
     let m1 = overwritten m p.at p.bytes in
     let sz = length-overwritten m p.at p.bytes le in
-    let ih = pokes_off area ps m1 b n pos (subst (λ k. bad_poke k area ps ≡ None) (sym sz) f.1) lo hi in
+    let ih = pokes_off area ps m1 b n pos (subst (λ k. bad_poke k (area ∷ []) ps ≡ None) (sym sz) f.1) lo hi in
     ih ∙ ⊎_elim
     (λ some.
     ⊎_elim
@@ -254,7 +237,7 @@ pokes_off area (p ∷ ps) m b n pos none lo hi =
     (λ none2. ap (λ x. bytes_at x b n) (nothing_written m p.at p.bytes (omega arith)))
     (cases_lt 0 (length p.bytes))
 
-area_kept : (area : Area) (s t : Store) (ps : List Poke) → Lowered area (area.at + 8) s.memory t.memory → 8 ≤ area.len → bad_poke (length t.memory) area ps ≡ None → AreaKept area s (poked t ps)
+area_kept : (area : Area) (s t : Store) (ps : List Poke) → Lowered area (area.at + 8) s.memory t.memory → 8 ≤ area.len → bad_poke (length t.memory) (area ∷ []) ps ≡ None → AreaKept area s (poked t ps)
 area_kept area s t ps low least none =
     let ot = low.others in
     record {

@@ -1,5 +1,5 @@
 -- Stores that belong together.
-use Rattle.std.specs.Prelude.{◌≡◌, ℕ, suc, ◌+◌, ◌^◌, ◌<◌, ◌≤◌, length, None}
+use Rattle.std.specs.Prelude.{◌≡◌, ℕ, suc, ◌+◌, ◌^◌, ◌<◌, ◌≤◌, [], ◌∷◌, length, None}
 use Rattle.wa_types.specs.Runtime.{global_space}
 use Rattle.wa_types.specs.declared.values.Trap.{Trap}
 use Rattle.wa_model.specs.Behaves.{AreaKept}
@@ -20,9 +20,9 @@ use Rattle.headline.specs.World.{World, setting}
 pub record StoreLaws (w : World) : Type 0 where
   pub same_end : (top : ℕ) (s s' : Store) → Alike (setting w top) s s' → SameEnd (global_space w.original) w.plan.area s s'
   pub poked_too : (top : ℕ) (s s' : Store) (a : Answer) → Alike (setting w top) s s'
-      → bad_poke (length s.memory) w.plan.area a.pokes ≡ None → Alike (setting w top) (poked s a.pokes) (poked s' a.pokes)
+      → bad_poke (length s.memory) (w.plan.area ∷ []) a.pokes ≡ None → Alike (setting w top) (poked s a.pokes) (poked s' a.pokes)
   pub poked_area : (s t : Store) (a : Answer) → Lowered w.plan.area (w.plan.area.at + 8) s.memory t.memory
-      → 8 ≤ w.plan.area.len → bad_poke (length t.memory) w.plan.area a.pokes ≡ None → AreaKept w.plan.area s (poked t a.pokes)
+      → 8 ≤ w.plan.area.len → bad_poke (length t.memory) (w.plan.area ∷ []) a.pokes ≡ None → AreaKept w.plan.area s (poked t a.pokes)
   pub around : (top : ℕ) (s s' t : Store) → Alike (setting w top) s s'
       → SameAround (global_space w.original) (suc (global_space w.original)) w.plan.area s' t → Alike (setting w top) s t
   pub words : (s : Store) → 8 ≤ w.plan.area.len → w.plan.area.at + w.plan.area.len ≤ length s.memory

@@ -1,10 +1,10 @@
 //! The tests of an answer: its value, its pokes, and whether it may pause there.
 
-ghost use Rattle.std.specs.Prelude.{◌≡◌, ◌<◌, ◌^◌, ◌+◌, ◌&&◌, List, All, Bool, not, length, map};
+ghost use Rattle.std.specs.Prelude.{◌≡◌, ◌<◌, ◌^◌, ◌+◌, ◌&&◌, List, ◌∷◌, All, Bool, nat_le, not, length, map};
 ghost use Rattle.std.specs.Option.{option_copied, option_to_list};
-ghost use Rattle.std.specs.List.{find};
+ghost use Rattle.std.specs.List.{find, list_all};
 ghost use Rattle.wa_model.specs.Plan.{Plan};
-ghost use Rattle.wa_model.specs.Blocking.{answers, bad_pause, bad_poke, bad_value, fault_of, is_unlisted, overlap, poke_fits};
+ghost use Rattle.wa_model.specs.Blocking.{answers, bad_pause, bad_poke, bad_value, fault_of, is_off, is_unlisted, overlap, poke_fits};
 ghost use Rattle.wa_model.specs.View.{answer_of, poke_of};
 ghost use Rattle.host_laws.specs.Answering.{IsShort, listed_of};
 
@@ -20,21 +20,22 @@ pub struct AnsweredCall {
 }
 
 /// The first test that an answer of a call fails: it is a trap, or a value of the import's result type; every poke lies inside the
-/// memory and off the area; where it pauses, the call isn't inside the start function, and the import isn't told as unlisted.
+/// memory, off the area and off the others; where it pauses, the call isn't inside the start function, and the import isn't told as unlisted.
 pub fn answer_fault(
     call: AnsweredCall,
     size: u64,
     area: Area,
+    others: &[Area],
     listed: Option<&[bool]>,
     answer: &Answer,
 ) -> Option<End>
-    ensures { (plan : Plan) → plan.area ≡ area → plan.listed ≡ listed_of listed.entry → All IsShort (map poke_of answer.now.pokes.items)
+    ensures { (plan : Plan) → plan.area ≡ area → plan.others ≡ others.now → plan.listed ≡ listed_of listed.entry → All IsShort (map poke_of answer.now.pokes.items)
         → result ≡ fault_of (option_to_list call.result_type) size plan call.in_start call.import (answer_of answer.now) }
 {
     let import = call.import;
     match bad_value(call.result_type, import, answer.said) {
         Some(end) => Some(end),
-        None => match bad_poke(size, area, &answer.pokes) {
+        None => match bad_poke(size, area, others, &answer.pokes) {
             Some(end) => Some(end),
             None => bad_pause(
                 call.in_start,
@@ -76,11 +77,11 @@ fn is_result(result_type: Option<ValType>, value: Option<Value>) -> bool
     }
 }
 
-// The end by the first poke that reaches past the memory or into the area.
-fn bad_poke(size: u64, area: Area, pokes: &[Poke]) -> Option<End>
-    ensures { All IsShort (map poke_of pokes.now) → result ≡ bad_poke size area (map poke_of pokes.now) }
+// The end by the first poke that reaches past the memory, into the area or into one of the others.
+fn bad_poke(size: u64, area: Area, others: &[Area], pokes: &[Poke]) -> Option<End>
+    ensures { All IsShort (map poke_of pokes.now) → result ≡ bad_poke size (area ∷ others.now) (map poke_of pokes.now) }
 {
-    match first_bad(size, area, pokes) {
+    match first_bad(size, area, others, pokes) {
         None => None,
         Some(poke) => Some(End::BadPoke {
             at: poke.at,
@@ -89,22 +90,40 @@ fn bad_poke(size: u64, area: Area, pokes: &[Poke]) -> Option<End>
     }
 }
 
-fn first_bad(size: u64, area: Area, pokes: &[Poke]) -> Option<&Poke>
-    ensures { option_copied result ≡ find (λ poke. not (poke_fits size area (poke_of poke))) pokes.now }
+fn first_bad<'p>(size: u64, area: Area, others: &[Area], pokes: &'p [Poke]) -> Option<&'p Poke>
+    ensures { option_copied result ≡ find (λ poke. not (poke_fits size (area ∷ others.now) (poke_of poke))) pokes.now }
 {
-    pokes.iter().find(|poke| !poke_fits(size, area, poke))
+    pokes
+        .iter()
+        .find(|poke| !poke_fits(size, area, others, poke))
 }
 
-// Whether a poke lies inside a memory of this size and off the area.
-fn poke_fits(size: u64, area: Area, poke: &Poke) -> bool
-    ensures { result ≡ poke_fits size area (poke_of poke.now) }
+// Whether a poke lies inside a memory of this size, off the area and off the others.
+fn poke_fits(size: u64, area: Area, others: &[Area], poke: &Poke) -> bool
+    ensures { result ≡ poke_fits size (area ∷ others.now) (poke_of poke.now) }
 {
-    let len = poke.bytes.len() as u64;
-    if len > size {
-        return false;
-    }
-    let at = u64::from(poke.at);
-    at + len <= size && !overlap(at, len, area)
+    is_inside(size, poke) && is_off(poke, area) && is_off_each(poke, others)
+}
+
+// Whether a poke lies inside a memory of this size.
+fn is_inside(size: u64, poke: &Poke) -> bool
+    ensures { result ≡ nat_le ((poke_of poke.now).at + length (poke_of poke.now).bytes) size }
+{
+    u64::from(poke.at) + poke.bytes.len() as u64 <= size
+}
+
+// Whether a poke lies off each of these ranges.
+fn is_off_each(poke: &Poke, areas: &[Area]) -> bool
+    ensures { result ≡ list_all (is_off (poke_of poke.now)) areas.now }
+{
+    areas.iter().all(|area| is_off(poke, *area))
+}
+
+// Whether a poke lies off a range.
+fn is_off(poke: &Poke, area: Area) -> bool
+    ensures { result ≡ is_off (poke_of poke.now) area }
+{
+    !overlap(u64::from(poke.at), poke.bytes.len() as u64, area)
 }
 
 // Whether some bytes of a range are bytes of the area.

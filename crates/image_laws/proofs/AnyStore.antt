@@ -1,5 +1,6 @@
 -- A stack that hangs comes back over any two stores that belong together, and goes on as a related pair: which store the original has
 -- meanwhile is left open.
+use Rattle.run_theory.proofs.TestedPokes.{passes_area}
 use Rattle.std.proofs.Common.{All, List, None, Option, [], ap, arith, false, length, refl, subst, suc, sym, ℕ, ◌*◌, ◌+◌, ◌<◌, ◌^◌, ◌∙◌, ◌∷◌, ◌≡◌, ◌≤◌, ◌++◌}
 use Rattle.std.specs.List.{sum_by}
 use Rattle.std.specs.Option.{option_to_list}
@@ -39,7 +40,6 @@ use Rattle.guard_runs.specs.Pause.{SuspendedIn}
 use Rattle.image_laws.proofs.Apart.{ApartSums, rewound_all}
 use Rattle.guard_runs.proofs.EachStretch.{answers_go_on}
 use Rattle.guard_runs.proofs.Stores.{together}
-use Rattle.headline.proofs.Asks.{no_bad_poke}
 use Rattle.headline.proofs.Pauses.{some_is}
 use Rattle.run_laws.proofs.Keeping.{same_refl}
 use Rattle.image_laws.specs.Image.{BehavesFrom, held_at_pause, rewind_bound}
@@ -66,8 +66,8 @@ module _ (w : World) (ft : WorldFits w) (sl : StoreLaws w) (L : (top spare : ℕ
     small : length d.store.memory < 2 ^ 32
     small = law.small d.store (law.waits_good top i d z.flat z.waits)
 
-    no_bad : bad_poke (length d.store.memory) w.plan.area a.pokes ≡ None
-    no_bad = no_bad_poke (func_type_at (base w) i).results (length d.store.memory) w.plan false i a ef
+    no_bad : bad_poke (length d.store.memory) (w.plan.area ∷ []) a.pokes ≡ None
+    no_bad = passes_area (func_type_at (base w) i).results (length d.store.memory) w.plan false i a ef
 
     bk : Back w ft sl L W G law top i e a lo d z d.store t
     bk = comes_back w ft sl L W G law top i e a lo d z d.store t like (ft.least lets) small sus no_bad

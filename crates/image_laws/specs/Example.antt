@@ -60,7 +60,7 @@ called_with_7 = record { func = 1; args = V.I32 7 ∷ [] }
 
 -- with 64 bytes from 1024 on as the area
 abbrev pub plan_there : Plan
-plan_there = record { globals = []; entries = called_with_7 ∷ []; area = record { at = 1024; len = 64 }; listed = Some (true ∷ []) }
+plan_there = record { globals = []; entries = called_with_7 ∷ []; area = record { at = 1024; len = 64 }; others = []; listed = Some (true ∷ []) }
 
 -- the answer is 42, after 5 ticks
 abbrev pub answer_42 : Answer

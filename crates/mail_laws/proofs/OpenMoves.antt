@@ -67,11 +67,11 @@ value_tame results import (S.Value v) = by (answers results v)
     by true = tt
     by false = refl
 
-poke_tame : (size : ℕ) (area : Area) (ps : List Poke) → TameEnd (bad_poke size area ps)
-poke_tame size area [] = tt
-poke_tame size area (p ∷ ps) = by (poke_fits size area p) (poke_tame size area ps)
+poke_tame : (size : ℕ) (areas : List Area) (ps : List Poke) → TameEnd (bad_poke size areas ps)
+poke_tame size areas [] = tt
+poke_tame size areas (p ∷ ps) = by (poke_fits size areas p) (poke_tame size areas ps)
   where
-    by : (b : Bool) → TameEnd (bad_poke size area ps) → TameEnd (if b then bad_poke size area ps else Some (BadPoke p.at (length p.bytes)))
+    by : (b : Bool) → TameEnd (bad_poke size areas ps) → TameEnd (if b then bad_poke size areas ps else Some (BadPoke p.at (length p.bytes)))
     by true on = on
     by false on = refl
 
@@ -83,9 +83,9 @@ pause_tame false false import (suc ticks) = tt
 
 pub fault_tame : (results : List ValType) (size : ℕ) (plan : Plan) (start : Bool) (import : ℕ) (a : Answer) → TameEnd (fault_of results size plan start import a)
 fault_tame results size plan start import a =
-    or_tame (bad_value results import a.said) (or_else (bad_poke size plan.area a.pokes) (bad_pause start (is_unlisted plan.listed import) import a.ticks))
+    or_tame (bad_value results import a.said) (or_else (bad_poke size (plan.area ∷ plan.others) a.pokes) (bad_pause start (is_unlisted plan.listed import) import a.ticks))
     (value_tame results import a.said)
-    (or_tame (bad_poke size plan.area a.pokes) (bad_pause start (is_unlisted plan.listed import) import a.ticks) (poke_tame size plan.area a.pokes)
+    (or_tame (bad_poke size (plan.area ∷ plan.others) a.pokes) (bad_pause start (is_unlisted plan.listed import) import a.ticks) (poke_tame size (plan.area ∷ plan.others) a.pokes)
     (pause_tame start (is_unlisted plan.listed import) import a.ticks))
 
 -- what the notes of a move, behind a call's, say of where it leads

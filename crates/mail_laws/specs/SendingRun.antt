@@ -41,7 +41,7 @@ putter = record {
 abbrev pub sender : Program
 sender = record {
   source = putter;
-  plan = record { globals = []; entries = record { func = 1; args = [] } ∷ []; area = record { at = 0; len = 64 }; listed = Some (true ∷ []) };
+  plan = record { globals = []; entries = record { func = 1; args = [] } ∷ []; area = record { at = 0; len = 64 }; others = []; listed = Some (true ∷ []) };
   steps = 100;
   answers = [];
   binds = Some box ∷ [];

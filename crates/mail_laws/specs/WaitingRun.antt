@@ -39,7 +39,7 @@ box = codes "box"
 abbrev pub waiter : Program
 waiter = record {
   source = getter;
-  plan = record { globals = []; entries = record { func = 1; args = [] } ∷ []; area = record { at = 0; len = 64 }; listed = Some (true ∷ []) };
+  plan = record { globals = []; entries = record { func = 1; args = [] } ∷ []; area = record { at = 0; len = 64 }; others = []; listed = Some (true ∷ []) };
   steps = 100;
   answers = [];
   binds = Some box ∷ [];

@@ -1,6 +1,8 @@
 -- What a call of the mailbox at a place does to all of them.
 use Rattle.std.proofs.Common.{Result, Ok, Err, OnErr, ◌≡◌, ℕ, ◌<◌, List, [], ◌∷◌, ◌++◌, length, get_or, set, Option, Some, None, slice_get, refl, sym, ap, ◌∙◌, subst}
-use Rattle.std.specs.Prelude.{OnOk, MatchOption}
+use Rattle.std.specs.Prelude.{String, OnOk, MatchOption}
+use Rattle.std.specs.declared.alloc.Global.{Global}
+use Rattle.std.specs.BTreeMap.{BTreeMap}
 use Rattle.std.proofs.lemmas.List.{set-get_or}
 use Rattle.std.proofs.lemmas.Option.{slice_get-get_or}
 use Rattle.std.proofs.lemmas.Result.{on_ok_weaker}
@@ -8,6 +10,7 @@ use Rattle.device_port.specs.declared.device.Reply.{Reply}
 use Rattle.device_port.proofs.Places.{unchanged, some_is}
 use Rattle.mailbox_device.specs.declared.mailbox.Settled.{Settled}
 use Rattle.mailbox_device.specs.Mail.{Box, Mail, names_of, sent, sent_past, receiver, awaited, TakesFirst, IsEmptyAt, WaitsNowhere, waits_at_all, Sends, Receives, Awaits, IsOrderly}
+use Rattle.mailbox_device.specs.Places.{AreSound, TellsPlaces}
 use Rattle.mailbox_device.proofs.Orderly.{orderly_sent, orderly_received, orderly_awaited}
 
 -- what holds of a change and of none holds behind a call that may want memory
@@ -40,6 +43,14 @@ module _ (boxes : List Box) (settled : List Settled) (old : Mail) (view_is : rec
   -- another of its name in its place
   same_names : (new : Box) → new.name ≡ box.name → names_of (set boxes place new) ≡ names_of old.boxes
   same_names new same = unchanged (λ (b : Box). b.name) boxes place box new is same ∙ ap (λ (m : Mail). names_of m.boxes) view_is
+
+  -- names found are found again
+  pub sound : (places : BTreeMap (String Global) ℕ) (new : Box) → AreSound places boxes → names_of (set boxes place new) ≡ names_of old.boxes → IsOrderly (set boxes place new)
+      → AreSound places (set boxes place new)
+  sound places new before names orderly = record {
+    found = subst (TellsPlaces places) (ap (λ (m : Mail). names_of m.boxes) view_is ∙ sym names) before.found;
+    orderly = orderly;
+  }
 
   as_before : set boxes place box ≡ boxes
   as_before = ap (set boxes place) is ∙ set-get_or boxes place box

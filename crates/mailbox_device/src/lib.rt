@@ -8,13 +8,14 @@
 //! Contracts see mailboxes as plain data (`Mail` of `specs/Mail.antt`), and say of each call all that it leaves. Always where a program
 //! waits no value is queued, and each program waits once at most (`IsOrderly`).
 //!
-//! - `mailbox`, `mailboxes`: one, and all of them with who is settled.
+//! - `mailbox`, `places`, `mailboxes`: one, the places of names, and all of them with who is settled.
 //! - `laws`: the mailbox at a place that was found is the one of the name.
 #![tactic(auto)]
 
 mod laws;
 mod mailbox;
 mod mailboxes;
+mod places;
 
 pub use laws::places_are_of_names;
 pub use mailboxes::Mailboxes;

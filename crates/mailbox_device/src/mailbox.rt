@@ -1,7 +1,7 @@
 //! One mailbox.
 
 ghost use Rattle.std.specs.Prelude.{◌≡◌, ◌++◌, [], OnOk, OnErr, MatchOption};
-ghost use Rattle.mailbox_device.specs.Mail.{is_box, empty_box, sent, receiver, awaited, TakesFirst};
+ghost use Rattle.mailbox_device.specs.Mail.{empty_box, sent, receiver, awaited, TakesFirst};
 
 use device_port::Reply;
 use std::alloc::{AllocError, Global};
@@ -42,13 +42,6 @@ impl Mailbox {
             values: VecDeque::new(alloc),
             waits: VecDeque::new(alloc),
         }
-    }
-
-    /// Whether it has this name.
-    pub(crate) fn is_named(&self, name: &str) -> bool
-        ensures { result ≡ is_box name.now self.now }
-    {
-        self.name.as_str() == name
     }
 
     /// Sends a value: the first program that waits joins the settled with it; where none waits it is queued.

@@ -4,27 +4,31 @@ ghost use Rattle.std.specs.Prelude.{◌≡◌, ◌<◌, [], ◌∷◌, length, m
 ghost use Rattle.mailbox_device.specs.Mail.{is_box, empty_mail, names_of, Sends, Receives, Awaits, IsEmptyAt, WaitsNowhere, IsOrderly};
 
 use crate::mailbox::{Mailbox, Settled};
+use crate::places::note_place;
 use device_port::Reply;
 use std::alloc::{AllocError, Global};
-use std::collections::VecDeque;
+use std::collections::{BTreeMap, VecDeque};
 use std::marker::Model;
 use wa_types::Name;
 
-/// Mailboxes, and the programs that have been sent a value since they waited. Contracts see both (`Mail`).
+/// Mailboxes, the place of each name, and the programs that have been sent a value since they waited. Contracts see the first and the
+/// last (`Mail`).
 #[derive(Drop)]
 pub struct Mailboxes {
     boxes: Vec<Mailbox>,
+    places: BTreeMap<String, usize>,
     settled: VecDeque<Settled>,
 }
 
 impl Model for Mailboxes {
-    ghost use Rattle.mailbox_device.specs.Mail.{Mail, IsOrderly};
+    ghost use Rattle.mailbox_device.specs.Mail.{Mail};
+    ghost use Rattle.mailbox_device.specs.Places.{AreSound};
 
     ghost Value = { Mail };
 
     ghost view = { λ m. record { boxes = m.boxes.items; settled = m.settled.items } };
 
-    ghost invariant = { λ m. IsOrderly m.boxes.items };
+    ghost invariant = { λ m. AreSound m.places m.boxes.items };
 }
 
 impl Mailboxes {
@@ -34,11 +38,14 @@ impl Mailboxes {
         ensures orderly { IfOk result (λ mail. IsOrderly mail.boxes) }
     {
         let mut boxes = Vec::with_capacity(alloc, names.len())?;
+        let mut places = BTreeMap::new(alloc);
         for name in names {
+            note_place(alloc, &mut places, name.as_str(), boxes.len())?;
             boxes.push(Mailbox::new(alloc, name))?;
         }
         Ok(Mailboxes {
             boxes,
+            places,
             settled: VecDeque::new(alloc),
         })
     }
@@ -47,7 +54,7 @@ impl Mailboxes {
     pub fn find(&self, name: &str) -> Option<usize>
         ensures { result ≡ position (is_box name.now) self.now.boxes }
     {
-        self.boxes.iter().position(|mailbox| mailbox.is_named(name))
+        self.places.get(name).copied()
     }
 
     /// Sends a value: the first program that waits there is settled with it; where none waits it is queued. For want of

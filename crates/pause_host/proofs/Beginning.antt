@@ -130,6 +130,7 @@ module _ (x : Plan) (funcs : List ℕ) (looks : List Look) (binds : List (Option
     memory = has_memory (all_memories p) x.area fine.area_fits;
     exports = m.exports;
     area = sym m.area_is;
+    others = sym m.no_others;
     listed = ap (option_map (λ (l : Vec Bool). l.items)) (sym m.listed_is);
     steps = sym m.steps_are;
     names = sym m.names;

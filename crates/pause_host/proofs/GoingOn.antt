@@ -67,6 +67,7 @@ from_here w o x is = record {
   memory = is.memory;
   exports = is.exports;
   area = is.area;
+  others = is.others;
   listed = is.listed;
   steps = is.steps;
   names = is.names;

@@ -54,6 +54,7 @@ pub record IsSetting (w : Program) (x : Setting) : Type 0 where
   pub memory : nat_lt 0 (length (all_memories w.source)) ≡ true
   pub exports : exports_in x.exports ≡ exports_of w.source
   pub area : w.plan.area ≡ x.area
+  pub others : w.plan.others ≡ x.others.items
   pub listed : w.plan.listed ≡ option_map (λ l. l.items) x.listed
   pub steps : w.steps ≡ x.steps
   pub names : import_names w.source ≡ map (λ (i : HostImport). i.name) x.imports.items

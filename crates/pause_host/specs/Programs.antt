@@ -69,7 +69,7 @@ pub record IsPlan (x : Plan) : Type 0 where
 abbrev pub world_program : Plan → List ℕ → List Look → List (Option (List ℕ)) → W.Program
 world_program x funcs looks binds = record {
   source = source_of x;
-  plan = record { globals = x.globals.items; entries = calls_of (named_entries x) funcs; area = x.area; listed = option_map (λ v. v.items) x.listed };
+  plan = record { globals = x.globals.items; entries = calls_of (named_entries x) funcs; area = x.area; others = []; listed = option_map (λ v. v.items) x.listed };
   steps = x.steps;
   answers = map answer_line_of x.answers.items;
   binds = binds;

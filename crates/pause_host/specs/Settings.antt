@@ -18,10 +18,11 @@ calls_of [] funcs = []
 calls_of (e ∷ es) [] = []
 calls_of (e ∷ es) (f ∷ fs) = record { func = f; args = e.args } ∷ calls_of es fs
 
--- the setting has these parts, and those that the module tells
+-- the setting has these parts, and those that the module tells; answers leave no range alone but the area
 pub record MakesSetting (p : Module) (listed : Option (Vec Bool)) (binds : Vec (Option (List ℕ))) (area : Area) (steps : ℕ) (x : Setting) : Type 0 where
   pub exports : exports_in x.exports ≡ exports_of p
   pub area_is : x.area ≡ area
+  pub no_others : x.others.items ≡ []
   pub listed_is : x.listed ≡ listed
   pub binds_are : x.binds ≡ binds
   pub steps_are : x.steps ≡ steps

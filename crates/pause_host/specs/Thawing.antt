@@ -55,7 +55,7 @@ lines_of x = map answer_line_of x.answers.items
 
 -- what tests of answers ask of a plan
 abbrev pub tested_plan : Plan → P.Plan
-tested_plan x = record { globals = x.globals.items; entries = []; area = x.area; listed = option_map (λ l. l.items) x.listed }
+tested_plan x = record { globals = x.globals.items; entries = []; area = x.area; others = []; listed = option_map (λ l. l.items) x.listed }
 
 -- The last answer taken pauses, names the import that waits, and passes its tests on the memory; so that import is listed.
 pub record LastAnswer (x : Plan) (parts : PausedParts) : Type 0 where

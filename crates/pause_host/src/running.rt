@@ -293,7 +293,14 @@ pub(crate) fn answered(
         result_type: import.result,
         in_start: is_start(&task),
     };
-    match answer_fault(call, size, setting.area, listed_in(setting), &answer) {
+    match answer_fault(
+        call,
+        size,
+        setting.area,
+        &setting.others,
+        listed_in(setting),
+        &answer,
+    ) {
         Some(end) => Stage::Ending(end),
         None => passed(task, number, answer),
     }

@@ -20,7 +20,7 @@ use std::alloc::{AllocError, Global};
 use wa_model::Area;
 use wa_types::{Export, Import, ImportKind, Module, Name, ValType};
 
-/// What stays of a program on its way.
+/// What stays of a program on its way. Answers leave no range alone but its area.
 pub fn setting_of(
     alloc: Global,
     module: &Module,
@@ -31,12 +31,14 @@ pub fn setting_of(
 ) -> Result<Setting, AllocError>
     ensures { IfOk result (MakesSetting (module_of «module».now) listed binds area steps) }
 {
+    let others = Vec::new(alloc);
     Ok(Setting {
         alloc,
         imports: host_imports(alloc, module)?,
         binds,
         listed,
         area,
+        others,
         exports: exports_of(&module.exports),
         steps,
     })

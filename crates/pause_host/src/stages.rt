@@ -27,7 +27,7 @@ pub struct HostImport {
 }
 
 /// What stays of a program on its way: its imported functions, the devices to which they are bound, which of them are listed where
-/// that is told, its area, the exports that the host calls, and its number of steps.
+/// that is told, its area, further ranges that answers leave alone, the exports that the host calls, and its number of steps.
 #[derive(Drop)]
 pub struct Setting {
     pub alloc: Global,
@@ -35,6 +35,7 @@ pub struct Setting {
     pub binds: Vec<Option<Name>>,
     pub listed: Option<Vec<bool>>,
     pub area: Area,
+    pub others: Vec<Area>,
     pub exports: Exports,
     pub steps: u64,
 }

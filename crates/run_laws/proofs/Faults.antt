@@ -1,5 +1,5 @@
 -- The tests of an answer, where listed imports are told or not.
-use Rattle.std.proofs.Common.{◌≡◌, ℕ, zero, suc, List, Option, Some, None, Bool, true, false, refl, sym, ◌∙◌, ◌⊎◌, inl, inr}
+use Rattle.std.proofs.Common.{◌≡◌, ℕ, zero, suc, List, ◌∷◌, Option, Some, None, Bool, true, false, refl, sym, ◌∙◌, ◌⊎◌, inl, inr}
 use Rattle.std.specs.Prelude.{not, slice_get}
 use Rattle.wa_types.specs.Pausing.{is_told}
 use Rattle.wa_types.specs.declared.values.ValType.{ValType}
@@ -46,6 +46,6 @@ module _ (listed : List Bool) (plan : Plan) where
     fault_forks types size start i a =
         let o = bad_pause start (is_unlisted plan.listed i) i a.ticks in
         let o' = bad_pause start (not (is_told (slice_get listed i))) i a.ticks in
-        let pokes = bad_poke size plan.area a.pokes in
+        let pokes = bad_poke size (plan.area ∷ plan.others) a.pokes in
         else_forks start i a.ticks (bad_value types i a.said) (or_else pokes o) (or_else pokes o')
         (else_forks start i a.ticks pokes o o' (pause_forks start i a.ticks))

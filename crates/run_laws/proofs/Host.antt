@@ -1,8 +1,6 @@
 -- What the host puts into a store and tells is in range: notes, answers, pokes, configurations that go on.
 use Rattle.std.proofs.Common.{◌≡◌, ℕ, zero, suc, ◌+◌, ◌^◌, ◌<◌, ◌≤◌, Bool, true, false, cond, List, [], ◌∷◌, ◌++◌, length, map, Option, Some, None, All, refl, arith}
-use Rattle.std.specs.Prelude.{nat_le, not}
 use Rattle.std.specs.Option.{option_to_list}
-use Rattle.std.proofs.lemmas.Bool.{and_parts, leb-true}
 use Rattle.std.proofs.lemmas.List.Elements.{All-nil, All-cons, All-head, All-tail, All-weaker}
 use Rattle.wa_types.specs.declared.values.ValType.{ValType}
 use Rattle.wa_types.specs.declared.values.Value.{Value}
@@ -18,8 +16,9 @@ use Rattle.wa_model.specs.Outside.{Poke, Answer, Event, ended}
 use Rattle.wa_model.specs.Store.{Store}
 use Rattle.wa_model.specs.Configuration.{Activation, Configuration, suspended}
 use Rattle.wa_model.specs.Plan.{Entry, Plan, PokeFits, AnswerFits, SaidFits, ValueFits, IsRefusal}
-use Rattle.wa_model.specs.Blocking.{Note, note, call_note, answers, bad_value, overlap, poke_fits, bad_poke, is_unlisted, bad_pause, or_else, fault_of, pause_of, poked_memory, poked, resumed, done_notes, value_of_results, Asker, inside, outermost, store_at, stack_at}
+use Rattle.wa_model.specs.Blocking.{Note, note, call_note, answers, bad_value, poke_fits, bad_poke, is_unlisted, bad_pause, or_else, fault_of, pause_of, poked_memory, poked, resumed, done_notes, value_of_results, Asker, inside, outermost, store_at, stack_at}
 use Rattle.run_theory.specs.LawfulStacks.{SuspendedIn}
+use Rattle.run_theory.proofs.TestedPokes.{fits_inside, pokes_pass}
 use Rattle.run_laws.specs.Ranges.{ValuesIn, MemoryIn, StoreIn, ActivationIn, ConfigurationIn, EndIn, EventIn, TicksIn, NoteIn, AskerIn, PokeInside, WaitsIn}
 use Rattle.run_laws.proofs.Acts.{none_in, more_in, first_in}
 use Rattle.run_laws.proofs.Bytes.{overwritten_in}
@@ -66,25 +65,21 @@ or_else_in : (a b : Option End) → FaultIn a → FaultIn b → FaultIn (or_else
 or_else_in None b h k = k
 or_else_in (Some e) b h k = h
 
-or_else_none : (a b : Option End) → or_else a b ≡ None → (a ≡ None) × (b ≡ None)
-or_else_none None b e = (refl, e)
-or_else_none (Some x) b e = cc
-
-bad_poke_in : (size : ℕ) (area : Area) (ps : List Poke) → FaultIn (bad_poke size area ps)
-bad_poke_in size area [] = tt
-bad_poke_in size area (p ∷ ps) = by_test (poke_fits size area p) (bad_poke_in size area ps)
+bad_poke_in : (size : ℕ) (areas : List Area) (ps : List Poke) → FaultIn (bad_poke size areas ps)
+bad_poke_in size areas [] = tt
+bad_poke_in size areas (p ∷ ps) = by_test (poke_fits size areas p) (bad_poke_in size areas ps)
   where
-    by_test : (b : Bool) → FaultIn (bad_poke size area ps) → FaultIn (cond b (bad_poke size area ps) (Some (BadPoke p.at (length p.bytes))))
+    by_test : (b : Bool) → FaultIn (bad_poke size areas ps) → FaultIn (cond b (bad_poke size areas ps) (Some (BadPoke p.at (length p.bytes))))
     by_test true h = h
     by_test false h = tt
 
-pokes_inside : (size : ℕ) (area : Area) (ps : List Poke) → bad_poke size area ps ≡ None → All (PokeInside size) ps
-pokes_inside size area [] e = All-nil (PokeInside size)
-pokes_inside size area (p ∷ ps) e = by_test (poke_fits size area p) refl e (λ z. pokes_inside size area ps z)
+pokes_inside : (size : ℕ) (areas : List Area) (ps : List Poke) → bad_poke size areas ps ≡ None → All (PokeInside size) ps
+pokes_inside size areas [] e = All-nil (PokeInside size)
+pokes_inside size areas (p ∷ ps) e = by_test (poke_fits size areas p) refl e (λ z. pokes_inside size areas ps z)
   where
-    by_test : (b : Bool) → poke_fits size area p ≡ b → cond b (bad_poke size area ps) (Some (BadPoke p.at (length p.bytes))) ≡ None
-        → (bad_poke size area ps ≡ None → All (PokeInside size) ps) → All (PokeInside size) (p ∷ ps)
-    by_test true z e on = All-cons (PokeInside size) p ps (leb-true _ _ (and_parts (nat_le (p.at + length p.bytes) size) (not (overlap p.at (length p.bytes) area.at area.len)) z).0) (on e)
+    by_test : (b : Bool) → poke_fits size areas p ≡ b → cond b (bad_poke size areas ps) (Some (BadPoke p.at (length p.bytes))) ≡ None
+        → (bad_poke size areas ps ≡ None → All (PokeInside size) ps) → All (PokeInside size) (p ∷ ps)
+    by_test true z e on = All-cons (PokeInside size) p ps (fits_inside size areas p z) (on e)
     by_test false z e on = cc
 
 bad_pause_in : (in_start unlisted : Bool) (import ticks : ℕ) → FaultIn (bad_pause in_start unlisted import ticks)
@@ -97,7 +92,7 @@ module _ (results : List ValType) (size : ℕ) (plan : Plan) (in_start : Bool) (
   pub fault_in : AnswerFits a → FaultIn (fault_of results size plan in_start import a)
   fault_in f =
       or_else_in _ _ (by_said a.said f.said)
-      (or_else_in (bad_poke size plan.area a.pokes) _ (bad_poke_in size plan.area a.pokes) (bad_pause_in in_start (is_unlisted plan.listed import) import a.ticks))
+      (or_else_in (bad_poke size (plan.area ∷ plan.others) a.pokes) _ (bad_poke_in size (plan.area ∷ plan.others) a.pokes) (bad_pause_in in_start (is_unlisted plan.listed import) import a.ticks))
     where
       by_value : (v : Option Value) → ValueFits v → (b : Bool) → FaultIn (cond b None (Some (BadAnswer import v)))
       by_value v h true = tt
@@ -108,7 +103,7 @@ module _ (results : List ValType) (size : ℕ) (plan : Plan) (in_start : Bool) (
       by_said S.Trap h = tt
 
   pub fault_pokes : fault_of results size plan in_start import a ≡ None → All (PokeInside size) a.pokes
-  fault_pokes e = pokes_inside size plan.area a.pokes (or_else_none (bad_poke size plan.area a.pokes) _ (or_else_none _ _ e).1).0
+  fault_pokes e = pokes_inside size (plan.area ∷ plan.others) a.pokes (pokes_pass results size plan in_start import a e)
 
 pub refusal_in : (e : End) → IsRefusal e → EndIn e
 refusal_in (BadAnswer import value) h = absurd h

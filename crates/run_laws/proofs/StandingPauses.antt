@@ -139,7 +139,7 @@ fault_listed : (results : List ValType) (size : ℕ) (plan : Plan) (in_start : B
     → plan.listed ≡ Some listed → a.ticks ≡ suc ticks → fault_of results size plan in_start import a ≡ None
     → slice_get listed import ≡ Some true
 fault_listed results size plan in_start import a listed ticks l t e =
-    let last = or_else_last (bad_poke size plan.area a.pokes) _ (or_else_last _ _ e) in
+    let last = or_else_last (bad_poke size (plan.area ∷ plan.others) a.pokes) _ (or_else_last _ _ e) in
     let at = subst (λ (n : ℕ). bad_pause in_start (is_unlisted plan.listed import) import n ≡ None) t last in
     unlisted_no listed import (ap (λ (o : Option (List Bool)). is_unlisted o import) (sym l) ∙ pause_listed in_start (is_unlisted plan.listed import) import ticks at)
 
@@ -151,7 +151,7 @@ pause_outside false unlisted import ticks e = refl
 pub fault_outside : (results : List ValType) (size : ℕ) (plan : Plan) (in_start : Bool) (import : ℕ) (a : Answer) (ticks : ℕ)
     → a.ticks ≡ suc ticks → fault_of results size plan in_start import a ≡ None → in_start ≡ false
 fault_outside results size plan in_start import a ticks t e =
-    let last = or_else_last (bad_poke size plan.area a.pokes) _ (or_else_last _ _ e) in
+    let last = or_else_last (bad_poke size (plan.area ∷ plan.others) a.pokes) _ (or_else_last _ _ e) in
     pause_outside in_start (is_unlisted plan.listed import) import ticks (subst (λ (n : ℕ). bad_pause in_start (is_unlisted plan.listed import) import n ≡ None) t last)
 
 -- ---- the machine

@@ -83,7 +83,7 @@ five_more = module_with (record { sort = 0; locals = []; body = then (const (i32
 
 -- a plan that calls `run` with 7, with an area of this length
 abbrev pub area_of : ℕ → Plan
-area_of len = record { globals = []; entries = entry 1 (i32 7 ∷ []) ∷ []; area = record { at = 1024; len = len }; listed = Some (true ∷ []) }
+area_of len = record { globals = []; entries = entry 1 (i32 7 ∷ []) ∷ []; area = record { at = 1024; len = len }; others = []; listed = Some (true ∷ []) }
 
 -- a word of the area, this far behind the location, into a local
 abbrev pub word_into : ℕ → ℕ → Code → Code

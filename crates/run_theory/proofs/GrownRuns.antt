@@ -63,9 +63,9 @@ start_pause unlisted import (suc ticks) e = cc
 no_pause_in_start : (results : List ValType) (size : ℕ) (plan : Plan) (import : ℕ) (a : Answer) → fault_of results size plan true import a ≡ None → a.ticks ≡ 0
 no_pause_in_start results size plan import a e =
     start_pause (is_unlisted plan.listed import) import a.ticks
-    (second_none (bad_poke size plan.area a.pokes) (bad_pause true (is_unlisted plan.listed import) import a.ticks)
+    (second_none (bad_poke size (plan.area ∷ plan.others) a.pokes) (bad_pause true (is_unlisted plan.listed import) import a.ticks)
     (second_none (bad_value results import a.said)
-    (or_else (bad_poke size plan.area a.pokes) (bad_pause true (is_unlisted plan.listed import) import a.ticks)) e))
+    (or_else (bad_poke size (plan.area ∷ plan.others) a.pokes) (bad_pause true (is_unlisted plan.listed import) import a.ticks)) e))
 
 refusal_plain : (e : End) → IsRefusal e → unless_pause (ended e) ≡ Some (ended e)
 refusal_plain (NoAnswer i) h = refl

@@ -29,4 +29,5 @@ pub mod RuntimeValid
 pub mod ShownMoments
 pub mod ShownRuns
 pub mod TestedEnds
+pub mod TestedPokes
 pub mod WiderTyping

@@ -47,7 +47,7 @@ asks = record {
 
 -- no import is listed
 abbrev plan : List Entry → Plan
-plan entries = record { globals = []; entries = entries; area = record { at = 0; len = 64 }; listed = Some (false ∷ []) }
+plan entries = record { globals = []; entries = entries; area = record { at = 0; len = 64 }; others = []; listed = Some (false ∷ []) }
 
 abbrev answer : ℕ → ℕ → Outcome
 answer n ticks = given (record { said = S.Value (Some (i32 n)); pokes = []; ticks = ticks })

@@ -38,11 +38,11 @@ module _ (P : End → Type 0) (each : OfTests P) where
       by false = each.value i v
   value_is types i S.Trap = tt
 
-  pokes_are : (size : ℕ) (area : Area) (ps : List Poke) → EndIs P (bad_poke size area ps)
-  pokes_are size area [] = tt
-  pokes_are size area (p ∷ ps) = by (poke_fits size area p) (pokes_are size area ps)
+  pokes_are : (size : ℕ) (areas : List Area) (ps : List Poke) → EndIs P (bad_poke size areas ps)
+  pokes_are size areas [] = tt
+  pokes_are size areas (p ∷ ps) = by (poke_fits size areas p) (pokes_are size areas ps)
     where
-      by : (b : Bool) → EndIs P (bad_poke size area ps) → EndIs P (if b then bad_poke size area ps else Some (BadPoke p.at (length p.bytes)))
+      by : (b : Bool) → EndIs P (bad_poke size areas ps) → EndIs P (if b then bad_poke size areas ps else Some (BadPoke p.at (length p.bytes)))
       by true h = h
       by false h = each.poke p.at (length p.bytes)
 
@@ -59,8 +59,8 @@ module _ (P : End → Type 0) (each : OfTests P) where
   pub fault_is : (types : List ValType) (size : ℕ) (plan : Plan) (start : Bool) (i : ℕ) (a : Answer) → (is_unlisted plan.listed i ≡ true → P (UnlistedPause i))
       → EndIs P (fault_of types size plan start i a)
   fault_is types size plan start i a h =
-      else_is (bad_value types i a.said) (or_else (bad_poke size plan.area a.pokes) (bad_pause start (is_unlisted plan.listed i) i a.ticks)) (value_is types i a.said)
-      (else_is (bad_poke size plan.area a.pokes) (bad_pause start (is_unlisted plan.listed i) i a.ticks) (pokes_are size plan.area a.pokes)
+      else_is (bad_value types i a.said) (or_else (bad_poke size (plan.area ∷ plan.others) a.pokes) (bad_pause start (is_unlisted plan.listed i) i a.ticks)) (value_is types i a.said)
+      (else_is (bad_poke size (plan.area ∷ plan.others) a.pokes) (bad_pause start (is_unlisted plan.listed i) i a.ticks) (pokes_are size (plan.area ∷ plan.others) a.pokes)
       (pause_is start (is_unlisted plan.listed i) i a.ticks h))
 
 -- ---- instantiation

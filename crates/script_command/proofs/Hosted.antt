@@ -23,7 +23,7 @@ stands_in : (x : Source) (y : Part) → y.listed ≡ None → IsHosted x y → S
 stands_in x y listed h =
     let o = hosted_for x y in
     let plan : Plan = o.program.plan in
-    let planned : Option (List Bool) → Plan = λ l. record { globals = plan.globals; entries = plan.entries; area = plan.area; listed = l } in
+    let planned : Option (List Bool) → Plan = λ l. record { globals = plan.globals; entries = plan.entries; area = plan.area; others = plan.others; listed = l } in
     let rw_of = h.rewrites in
     record {
       rewrites = rw_of;

@@ -24,7 +24,7 @@ use Rattle.wa_types.specs.Runtime.{global_space}
 use Rattle.wa_types.specs.Syntax.{Module}
 use Rattle.wa_types.specs.declared.values.Value.TheVariants as V
 use Rattle.strand_laws.proofs.Between.{InsideAll, chain_to}
-use Rattle.strand_laws.proofs.Clear.{ClearOut, chain_begins, chain_between, clear_none}
+use Rattle.strand_laws.proofs.Clear.{chain_begins, chain_between}
 use Rattle.strand_laws.proofs.InStep as I
 use Rattle.strand_laws.proofs.Switch.{wake_all}
 use Rattle.strand_laws.proofs.Threads.{AllHang, hang_lengths, unfinished, unfinished_few}
@@ -84,7 +84,7 @@ module _ (family : Family) (laws : FamilyLaws family) where
   -- of the strands from this number on
   abbrev pub EachOut : (strand : ℕ) → List (List Outcome) → Type 0
   EachOut i [] = Unit {0}
-  EachOut i (os ∷ oss) = (All OutcomeFits os × ClearOut (strand_at g i).area g.strands os) × EachOut (suc i) oss
+  EachOut i (os ∷ oss) = All OutcomeFits os × EachOut (suc i) oss
 
   none_fit : {X : Type 0} (P : X → Type 0) → All P []
   none_fit P = λ k d lt. let no_way : ⊥ = omega arith in absurd no_way
@@ -93,8 +93,8 @@ module _ (family : Family) (laws : FamilyLaws family) where
   fits_first [] h = none_fit (EntryFits m)
   fits_first (s ∷ ss) h = h.0
 
-  outs_first : (oss : List (List Outcome)) → EachOut 0 oss → All OutcomeFits (first_outcomes oss) × ClearOut (strand_at g 0).area g.strands (first_outcomes oss)
-  outs_first [] h = (none_fit OutcomeFits, clear_none (strand_at g 0).area g.strands)
+  outs_first : (oss : List (List Outcome)) → EachOut 0 oss → All OutcomeFits (first_outcomes oss)
+  outs_first [] h = none_fit OutcomeFits
   outs_first (os ∷ oss) h = h.0
 
   abbrev thread_a : Strung → Thread Strung
@@ -114,7 +114,7 @@ module _ (family : Family) (laws : FamilyLaws family) where
     0,
     0,
     omega arith,
-    fresh no_store no_store s' (all_left (plan_of g s) o) (omega arith) (record { entries = fs.0; outcomes = os.0.0 }) os.0.1,
+    fresh no_store no_store s' (all_left (plan_of g s) o) (omega arith) (record { entries = fs.0; outcomes = os.0 }),
     hang_others s' (suc i) ss oss
         (omega arith) fs.1 os.1,
   )
@@ -165,7 +165,7 @@ module _ (family : Family) (laws : FamilyLaws family) where
     TogetherOf r r' = AllAlike (QTNow family laws) (from_a r).events (from_b r').events × PreNow 0 (from_a r).last (from_b r').last
 
     lf0 : LeftFits (wd 0) left0
-    lf0 = record { entries = fits_first g.strands entries_fit; outcomes = (outs_first oss outs_fit).0 }
+    lf0 = record { entries = fits_first g.strands entries_fit; outcomes = outs_first oss outs_fit }
 
     hung0 : (s' : Store) → AllHang (Hang family laws) s' 1 0 (map thread_a others_a) (map thread_b others_b)
     hung0 s' = hang_others s' 1 (drop 1 g.strands) (drop 1 oss) (others_few g.strands some) (others_fit g.strands entries_fit) (others_out oss outs_fit)
@@ -236,7 +236,7 @@ module _ (family : Family) (laws : FamilyLaws family) where
     HeldNow = held_begun written.start left0 (opening written g.globals)
 
     known0 : Known 0 HeldNow.last
-    known0 = (wl 0 some).begins (first_outcomes oss) (outs_first oss outs_fit).0
+    known0 = (wl 0 some).begins (first_outcomes oss) (outs_first oss outs_fit)
 
     together : TogetherOf BeganNow HeldNow
     together = by_opening (opening (Base m) g.globals) refl (opening written g.globals) refl sf.opened
@@ -277,7 +277,7 @@ module _ (family : Family) (laws : FamilyLaws family) where
                 both (record { events = []; last = begins x s left0 }) (record { events = []; last = starting x h.0 left0 }) (was ∙ ap (λ z. started s left0 z) e) now2
                 (goes_first s h.0 (begins x s left0) (starting x h.0 left0) refl
                 (going_on (begins x s left0) (begins x t left0) (starting x h.0 left0) ch.gaps some ch.are (chain_begins ch.gaps s t x left0 ch.chain)
-                (r_begins nr.good ((both_stores family laws) 0 some 0 s h.0 nr) lf0 (sf.lawful x e) ((nothing_allowed family laws) 0 (begins x t left0))) kn (outs_first oss outs_fit).1 ins))
+                (r_begins nr.good ((both_stores family laws) 0 some 0 s h.0 nr) lf0 (sf.lawful x e) ((nothing_allowed family laws) 0 (begins x t left0))) kn ins))
             by_start None e [] ee =
                 let now2 = now ∙ ap (λ z. held_started h.0 left0 z) e ∙ ap (λ z. record { events = done_notes h.0 z; last = held_on h.0 left0 z }) ee in
                 let kn = known_of _ now2 in
@@ -293,7 +293,7 @@ module _ (family : Family) (laws : FamilyLaws family) where
                 (was ∙ ap (λ z. started s left0 z) e ∙ ap (λ z. record { events = done_notes s z; last = on_to s left0 z }) ee) now2
                 (goes_first s h.0 (between s left0) (free h.0 left0) refl
                 (going_on (between s left0) (between t left0) (free h.0 left0) ch.gaps some ch.are (chain_between ch.gaps s t left0 ch.chain)
-                (r_between nr.good ((both_stores family laws) 0 some 0 s h.0 nr) lf0 ((nothing_allowed family laws) 0 (between t left0))) kn (outs_first oss outs_fit).1 ins))
+                (r_between nr.good ((both_stores family laws) 0 some 0 s h.0 nr) lf0 ((nothing_allowed family laws) 0 (between t left0))) kn ins))
 
     -- they behave, from where both begin together
     pub strands_behave_on : (n : ℕ) → StrandsUntouched st (with_source g m) oss n → StrandsNumbered st which (with_source g m) oss n → StrandsBehaveOn st which (with_source g m) written oss n

@@ -1,5 +1,5 @@
 -- The beginning of a strand's turn goes on to its end, and the world to its own.
-use Rattle.std.proofs.Common.{arith, ◌≡◌, ◌<◌, ◌≤◌, ◌⊎◌, inl, inr, ℕ, zero, suc, ◌+◌, List, [], ◌∷◌, ◌++◌, length, All, Some, Bool, true, false, refl, sym, ap, ◌∙◌, subst, append_assoc, append-nil}
+use Rattle.std.proofs.Common.{arith, ◌≡◌, ◌<◌, ◌≤◌, ◌⊎◌, inl, inr, ℕ, zero, suc, ◌+◌, List, [], ◌∷◌, ◌++◌, length, Some, Bool, true, false, refl, sym, ap, ◌∙◌, subst, append_assoc, append-nil}
 use Rattle.std.proofs.Common.{eq-eqb, ne_eqb}
 use Rattle.std.specs.Prelude.{map, nat_eq, slice_get, slice_set, if◌then◌else◌}
 use Rattle.std.specs.List.{AllZip}
@@ -12,16 +12,16 @@ use Rattle.world_model.specs.World.{CallsMeet, Device, Look, Program, detached, 
 use Rattle.world_laws.specs.Originals.{new_calls}
 use Rattle.world_laws.proofs.Meeting.{calls_take}
 use Rattle.strand_laws.proofs.Blocks.{lies_within, none_is, set_get, the_same}
-use Rattle.strand_laws.proofs.KnownTellers.{Known, calls_off, known_told}
+use Rattle.strand_laws.proofs.KnownTellers.{Known, known_told}
 use Rattle.strand_laws.proofs.NextTurn.{Next, outcomes_with, turn_on}
 use Rattle.strand_laws.proofs.StrandNotes.{map_both, stories_of}
-use Rattle.strand_laws.proofs.ToldGoesOn.{is_none, met_with, pokes_front, pokes_set, rest_is, told_goes_on}
+use Rattle.strand_laws.proofs.ToldGoesOn.{is_none, met_with, rest_is, told_goes_on}
 use Rattle.strand_laws.proofs.ToldStrands.{calls_longer, zip_get, zip_set, zip_unset}
 use Rattle.strand_laws.proofs.TurnTaken.{dues_back, dues_get, dues_of}
 use Rattle.strand_laws.specs.StrandNotes.{BegunStrandsBegin, OnStory, TellsOnStrands}
-use Rattle.strand_laws.specs.StrandWorld.{HeldStrands, PokesApart, ProtocolStrandWorld, StrandLine, StrandsInWorld, areas_but, looks_if, strand_program}
+use Rattle.strand_laws.specs.StrandWorld.{HeldStrands, ProtocolStrandWorld, StrandLine, StrandsInWorld, looks_if, strand_program}
 use Rattle.strand_laws.specs.Strands.{strand_at}
-use Rattle.strand_laws.specs.ToldStrands.{HasStory, IsDue, IsDueNext, IsRest, LinesApart, ProgramTeller, StrandTeller, TellsStrandTurn, TellsStrands}
+use Rattle.strand_laws.specs.ToldStrands.{HasStory, IsDue, IsDueNext, IsRest, ProgramTeller, StrandTeller, TellsStrandTurn, TellsStrands}
 use Rattle.strand_laws.specs.ToldStrands.{having_told, line_of, met_and, told_on}
 use Rattle.strand_laws.specs.Weaving.{EndNoTurn, HaveStrands, IsDueFirst, due_in, is_ready}
 use Rattle.strand_laws.specs.Woven.{Told, told_by}
@@ -106,7 +106,7 @@ more_behind (x ∷ xs) ys lt = omega arith
 -- ---- the turn goes on
 
 module _ (gs : List StrandsInWorld) (detaches : List Detach) (ds ds' : List Device) (number p k due : ℕ) (lines : List StrandLine) (tellers : List ProgramTeller) (some : HaveStrands gs)
-    (apart : All LinesApart gs) (h : TellsOnStrands gs detaches ds number p k due lines tellers ds') (on : AllZip OnStory gs tellers) where
+    (h : TellsOnStrands gs detaches ds number p k due lines tellers ds') (on : AllZip OnStory gs tellers) where
   abbrev g : StrandsInWorld
   g = h.g
 
@@ -147,7 +147,6 @@ module _ (gs : List StrandsInWorld) (detaches : List Detach) (ds ds' : List Devi
   story_before = record {
     rest = told_by k h.turn ++ rest;
     more = singles k h.met;
-    pokes = subst (PokesApart g.program.strands 0) (sym singles_are) on_here.pokes;
     story = subst (λ (oss : List (List Outcome)). HeldStrands g oss (t.told ++ (told_by k h.turn ++ rest))) (sym singles_are) (sym (append_assoc t.told (told_by k h.turn) rest) ∙ story);
     is_rest = subst (λ b. IsRest b (told_by k h.turn ++ rest)) (sym goes_on) (more_behind (told_by k h.turn) rest some_rest);
   }
@@ -156,7 +155,7 @@ module _ (gs : List StrandsInWorld) (detaches : List Detach) (ds ds' : List Devi
   stories_mid = zip_unset HasStory gs h.mid p g t t1 (subst (AllZip HasStory gs) h.after (stories_of gs tellers on)) h.is_program h.there story_before
 
   known : Known g t
-  known = zip_get Known gs h.mid p g t (known_told gs detaches ds number h.before h.mid h.es apart h.whole) h.is_program h.there
+  known = zip_get Known gs h.mid p g t (known_told gs detaches ds number h.before h.mid h.es h.whole) h.is_program h.there
 
   first : IsDueFirst (dues_of t.strands) k
   first = first_of h.mid p k due t s h.there h.strand_there h.due_is h.next
@@ -198,9 +197,6 @@ module _ (gs : List StrandsInWorld) (detaches : List Detach) (ds ds' : List Devi
   story_then = record {
     rest = n.rest;
     more = [];
-    pokes = pokes_set g.program.strands 0 k k t.strands s n.turn n.outcomes n.left (let z : k ≡ 0 + k = omega arith in z) h.strand_there
-        (pokes_front g.program.strands 0 t.strands story_before.more story_before.pokes)
-        (calls_off (areas_but k 0 g.program.strands) asks n.turn n.outcomes s.answers es n.left ds' n.calls (known.off k s h.strand_there)).0;
     story = subst (λ (oss : List (List Outcome)). HeldStrands g oss (t'.told ++ n.rest)) (sym (with_is n.outcomes n.turn n.left)) n.story;
     is_rest = rest_is n.rest;
   }
@@ -249,11 +245,11 @@ module _ (gs : List StrandsInWorld) (detaches : List Detach) (ds ds' : List Devi
   ends : (more : List StrandLine) × (last : List Device) × ProtocolStrandWorld gs detaches ds (lines ++ more) last
   ends =
       let now : TellsStrands gs detaches ds (suc number) (h.before ++ told_lines) (slice_set h.mid p t') ds' = (h.before, told_lines, h.mid, h.es, h.whole, turn, refl) in
-      let r = told_goes_on gs detaches ds (suc number) (h.before ++ told_lines) (slice_set h.mid p t') ds' some apart now (zip_set HasStory gs h.mid p g t' stories_mid h.is_program story_then) in (
+      let r = told_goes_on gs detaches ds (suc number) (h.before ++ told_lines) (slice_set h.mid p t') ds' some now (zip_set HasStory gs h.mid p g t' stories_mid h.is_program story_then) in (
         behind ++ r.0,
         r.1,
         subst (λ (ls : List StrandLine). ProtocolStrandWorld gs detaches ds ls r.1) (ap (λ (ls : List StrandLine). ls ++ r.0) lines_are ∙ append_assoc lines behind r.0) r.2,
       )
 
 pub begun_begin : BegunStrandsBegin
-begun_begin gs detaches ds ds' number p k due lines tellers some apart h on = ends gs detaches ds ds' number p k due lines tellers some apart h on
+begun_begin gs detaches ds ds' number p k due lines tellers some h on = ends gs detaches ds ds' number p k due lines tellers some h on

@@ -1,24 +1,27 @@
 -- Stores that are the same outside some areas: from one to the other area by area; and what a move over one of them keeps.
 use Rattle.std.proofs.Common.{◌≡◌, ℕ, zero, suc, ◌+◌, ◌-◌, ◌≤◌, ◌<◌, ◌⊎◌, inl, inr, ⊎_elim, List, [], ◌∷◌, ◌++◌, length, take, drop, Some, None, Bool, true, false, refl, sym, ap, ◌∙◌, subst, arith}
 use Rattle.std.proofs.Common.{length-append, length-drop}
-use Rattle.std.proofs.lemmas.Bool.{cases_lt}
+use Rattle.std.proofs.lemmas.Bool.{cases_lt, le-leb}
 use Rattle.std.proofs.lemmas.List.{length-take-le, take-append-drop}
 use Rattle.std.proofs.Math.Seq.{drop-append-add}
-use Rattle.std.specs.Prelude.{slice_get, nat_lt, ◌&&◌, unwrap_or}
+use Rattle.std.specs.Prelude.{slice_get, if◌then◌else◌, nat_lt, not, ◌&&◌, unwrap_or}
 use Rattle.wa_types.specs.Memory.{bytes_at}
 use Rattle.wa_types.specs.Syntax.{Module}
 use Rattle.wa_types.proofs.MemoryLemmas.{bytes_at-append}
 use Rattle.wa_model.specs.declared.answers.Area.{Area}
-use Rattle.wa_model.specs.Blocking.{Note, State, blocking, overlap, store_of}
+use Rattle.wa_model.specs.Blocking.{Note, State, bad_poke, blocking, overlap, store_of}
 use Rattle.wa_model.specs.Machine.{goes}
-use Rattle.wa_model.specs.Plan.{Outcome, Plan, given, refused}
+use Rattle.wa_model.specs.Plan.{Plan}
+use Rattle.wa_model.specs.declared.events.End.TheVariants.{BadPoke}
+use Rattle.run_theory.proofs.TestedPokes.{first_fits, fits_inside}
+use Rattle.wa_model.specs.Outside.{Poke}
 use Rattle.wa_model.specs.Store.{Store, with_memory}
 use Rattle.wa_model.specs.Untouched.{IsCalm, next_ranges}
 use Rattle.wa_model.proofs.StayingOff.{each_off}
 use Rattle.guard_runs.proofs.Stores.{long}
 use Rattle.strand_laws.proofs.Apart.{Apart, Gap}
-use Rattle.strand_laws.proofs.Middle.{Middle, OutcomesOff, StateApart, apart_goes, blocks_apart, size_apart, state_store, s_begins, s_between, s_halts, s_runs}
-use Rattle.strand_laws.specs.Strands.{PokesOff, Strand, no_strand}
+use Rattle.strand_laws.proofs.Middle.{Middle, StateApart, apart_goes, blocks_apart, size_apart, state_store, s_begins, s_between, s_halts, s_runs}
+use Rattle.strand_laws.specs.Strands.{Strand, no_strand}
 
 -- ---- lists
 
@@ -197,27 +200,20 @@ calm_there n (Rattle.wa_model.specs.Blocking.halts s) = tt
 calm_there n (Rattle.wa_model.specs.Blocking.runs task c l) =
     each_off (record { at = n; len = 0 }) (length c.store.memory) (λ x. no_overlap x.at x.len n) (next_ranges c)
 
-abbrev empty_at : ℕ → List Area
-empty_at n = record { at = n; len = 0 } ∷ []
-
-one_empty : (n a w k : ℕ) (d : Area) → k < length (empty_at n) → overlap a w (Rattle.std.specs.Prelude.get_or (empty_at n) k d).at (Rattle.std.specs.Prelude.get_or (empty_at n) k d).len ≡ false
-one_empty n a w zero d lt = no_overlap a w n
-one_empty n a w (suc k) d lt = let no_way : ⊥ = omega arith in absurd no_way
-
-out_by : (n : ℕ) (o : Outcome) → PokesOff (empty_at n) o
-out_by n (given a) = λ i q lt k d less. one_empty n _ _ k d less
-out_by n (refused e) = tt
-
-out_there : (own : Area) (n : ℕ) (a : State) → OutcomesOff own (end_gap n) a
-out_there own n (Rattle.wa_model.specs.Blocking.between s l) = inr (λ i d lt. out_by n _)
-out_there own n (Rattle.wa_model.specs.Blocking.begins x s l) = inr (λ i d lt. out_by n _)
-out_there own n (Rattle.wa_model.specs.Blocking.runs task c l) = inr (λ i d lt. out_by n _)
-out_there own n (Rattle.wa_model.specs.Blocking.halts s) = tt
+-- a test asks nothing more of an empty range
+out_there : (plan : Plan) (n size : ℕ) (qs : List Poke) → bad_poke size (plan.area ∷ plan.others) qs ≡ None → bad_poke size (record { at = n; len = 0 } ∷ []) qs ≡ None
+out_there plan n size [] e = refl
+out_there plan n size (q ∷ qs) e =
+    let areas = plan.area ∷ plan.others in
+    let f = first_fits size areas q qs e in
+    let le = le-leb (q.at + length q.bytes) size (fits_inside size areas q f.0) in
+    (λ i. if le i && (not (no_overlap q.at (length q.bytes) n i) && true) then bad_poke size (record { at = n; len = 0 } ∷ []) qs else Some (BadPoke q.at (length q.bytes)))
+    ∙ out_there plan n size qs f.1
 
 pub memory_grows : (m : Module) (plan : Plan) (a t : State) (k : ℕ) (es : List Note) → blocking m plan a ≡ goes k es t → length (store_of a).memory ≤ length (store_of t).memory
 memory_grows m plan a t k es e =
     let n = length (store_of a).memory in
-    let g = apart_goes (end_gap n) (blocking m plan a) (blocking m plan a) k es t (blocks_apart (end_gap n) m plan a a (state_self a) (calm_there n a) (out_there plan.area n a)) e in
+    let g = apart_goes (end_gap n) (blocking m plan a) (blocking m plan a) k es t (blocks_apart (end_gap n) m plan a a (state_self a) (calm_there n a) (out_there plan n)) e in
     let h = state_store (end_gap n) t g.1 g.4 in
     let l0 = h.low_size in
     let lm : length (store_of t).memory ≡ length h.low + length h.high = ap length h.memory ∙ length-append h.low h.high in

@@ -1,13 +1,11 @@
 -- The strands of the written module behave like those of its original, for all that is compared.
 use Rattle.headline.specs.World.{World}
 use Rattle.headline.proofs.FromOpenings.{StartFits}
-use Rattle.std.proofs.Common.{All, Bool, List, None, Option, Some, [], ap, arith, false, inl, inr, length, refl, subst, suc, sym, true, ℕ, ⊎_elim, ◌+◌, ◌*◌, ◌<◌, ◌∷◌, ◌≡◌, ◌≤◌}
-use Rattle.std.proofs.lemmas.Bool.{cases_eq}
+use Rattle.std.proofs.Common.{All, Bool, List, None, Option, Some, [], arith, false, length, refl, subst, suc, true, ℕ, ◌*◌, ◌∷◌, ◌≡◌, ◌≤◌}
 use Rattle.std.specs.Prelude.{map, nat_lt, replicate}
 use Rattle.wa_model.specs.Instantiation.{Opening, Piece, all_values, byte_piece, bytes_checked, elem_piece, elems_checked, fails_as, first_out, least_of, opened_by, opening, opens}
 use Rattle.wa_model.specs.Plan.{Fits, Outcome, OutcomeFits}
 use Rattle.wa_model.specs.Store.{Store}
-use Rattle.wa_model.specs.declared.answers.Area.{Area}
 use Rattle.wa_model.specs.declared.events.End.{End}
 use Rattle.wa_types.specs.Base.{Base}
 use Rattle.wa_types.specs.Memory.{page_size}
@@ -15,10 +13,8 @@ use Rattle.wa_types.specs.Modules.{all_memories, all_tables}
 use Rattle.wa_types.specs.Pausing.{Settings}
 use Rattle.wa_types.specs.Syntax.{Module}
 use Rattle.wa_types.specs.declared.values.Value.{Value}
-use Rattle.strand_laws.proofs.Between.{InsideAll, area_at}
-use Rattle.strand_laws.proofs.Clear.{ClearOut}
-use Rattle.strand_laws.proofs.Middle.{OffOther}
-use Rattle.strand_laws.specs.Strands.{PokesOff, Strand, StrandProgram, StrandsBehaveOn, StrandsCompared, StrandsNumbered, outcomes_at, plan_of, with_source}
+use Rattle.strand_laws.proofs.Between.{InsideAll}
+use Rattle.strand_laws.specs.Strands.{Strand, StrandProgram, StrandsBehaveOn, StrandsCompared, StrandsNumbered, plan_of, with_source}
 use Rattle.strand_laws.specs.Woven.{ends_strand}
 use Rattle.strand_laws.proofs.EachWorld.{Family, FamilyLaws, world_at}
 use Rattle.strand_laws.proofs.Beginnings.{EachFit, EachOut, strands_behave_on}
@@ -86,29 +82,9 @@ module _ (family : Family) (laws : FamilyLaws family) where
   each_in [] n e h = tt
   each_in (s ∷ ss) n e h = (let f = (h 0 s (omega arith)).area in let i = f.inside in omega arith, each_in ss n e (λ k d lt. h (suc k) d (let z = lt in omega arith)))
 
-  clear_of : (own : Area) (ss : List Strand) (os : List Outcome) → ((j : ℕ) → j < length ss → OffOther own (area_at ss j) os) → ClearOut own ss os
-  clear_of own [] os h = tt
-  clear_of own (s ∷ ss) os h = (h 0 (omega arith), clear_of own ss os (λ j lt. h (suc j) (let z = lt in omega arith)))
-
-  -- the outcomes of a strand, by the numbers of the others
-  clear_at : (i : ℕ) (os : List Outcome) → ((j : ℕ) → j < length g.strands → (i ≡ j → ⊥) → All (PokesOff (area_at g.strands j ∷ [])) os) → ClearOut (area_at g.strands i) g.strands os
-  clear_at i os h = clear_of (area_at g.strands i) g.strands os (λ j lj. ⊎_elim (λ e. inl (ap (area_at g.strands) (sym e))) (λ ne. inr (h j lj ne)) (cases_eq i j))
-
-  each_out : (i : ℕ) (oss : List (List Outcome)) → All (λ (os : List Outcome). All OutcomeFits os) oss
-      → ((k j : ℕ) → k < length oss → j ≡ i + k → ClearOut (area_at g.strands j) g.strands (outcomes_at oss k)) → (EachOut family laws) i oss
-  each_out i [] f h = tt
-  each_out i (os ∷ oss) f h = (
-    (f 0 os (omega arith), h 0 i (omega arith) (omega arith)),
-    each_out (suc i) oss (λ k d lt. f (suc k) d (let z = lt in omega arith)) (λ k j lt e. h (suc k) j (let z = lt in omega arith) (let z = e in omega arith)),
-  )
-
-  outs_compared : (oss : List (List Outcome)) (n : ℕ) → StrandsCompared st (with_source g m) oss n → (EachOut family laws) 0 oss
-  outs_compared oss n cmp =
-      each_out 0 oss cmp.outcomes
-      (λ k j lt e.
-      let wide = cmp.wide in
-      let at : j ≡ k = let z = e in omega arith in
-      subst (λ z. ClearOut (area_at g.strands z) g.strands (outcomes_at oss k)) (sym at) (clear_at k (outcomes_at oss k) (λ o lo ne. cmp.pokes k o (omega arith) lo ne)))
+  each_out : (i : ℕ) (oss : List (List Outcome)) → All (λ (os : List Outcome). All OutcomeFits os) oss → (EachOut family laws) i oss
+  each_out i [] f = tt
+  each_out i (os ∷ oss) f = (f 0 os (omega arith), each_out (suc i) oss (λ k d lt. f (suc k) d (let z = lt in omega arith)))
 
   -- THE LAW, for all that is compared
   pub strands_behave_compared : StartFits (wd 0) G → (oss : List (List Outcome)) (n : ℕ) → StrandsCompared st (with_source g m) oss n → StrandsNumbered st which (with_source g m) oss n
@@ -116,4 +92,4 @@ module _ (family : Family) (laws : FamilyLaws family) where
   strands_behave_compared sf oss n cmp nums =
       (strands_behave_on family laws) cmp.some sf fails_so
       (λ s e. each_in g.strands (length s.memory) (laws.opened_size s e) cmp.fits)
-      (each_fit g.strands cmp.fits) oss (outs_compared oss n cmp) n cmp.untouched nums
+      (each_fit g.strands cmp.fits) oss (each_out 0 oss cmp.outcomes) n cmp.untouched nums

@@ -37,7 +37,7 @@ use Rattle.wa_types.specs.declared.values.Value.{Value}
 use Rattle.wa_types.specs.declared.values.Value.TheVariants as V
 use Rattle.strand_laws.proofs.Apart.{Gap, off}
 use Rattle.strand_laws.proofs.Between.{AreGaps, Chain, Chained, InsideAll, OutAll, Outside, area_at, chain_globals, chain_outside, chain_size, chain_table, chain_to, chains_hold, bytes_by_each}
-use Rattle.strand_laws.proofs.Clear.{CalmAll, ClearOut, ClearPokes, ClearState}
+use Rattle.strand_laws.proofs.Clear.{CalmAll, ClearPokes}
 use Rattle.strand_laws.proofs.Hanging.{AreaSame}
 use Rattle.strand_laws.proofs.Middle.{Middle}
 use Rattle.strand_laws.proofs.Resumed.{Suspends, rewound_from, suspends_on}
@@ -213,15 +213,15 @@ module _ (family : Family) (laws : FamilyLaws family) where
 
   -- A strand that goes on: its original over a store with the other one's bytes in all areas is in step.
   pub data Go (i spare : ℕ) : Strung → Held → Type 0 where
-    going_on : (a a' : State) (b : Held) (ps : List Gap) (li : i < count) → AreGaps g.strands ps → Middle ps a a' → Rel i li 0 spare a' b → Known i b → ClearState (strand_at g i).area g.strands a
+    going_on : (a a' : State) (b : Held) (ps : List Gap) (li : i < count) → AreGaps g.strands ps → Middle ps a a' → Rel i li 0 spare a' b → Known i b
         → InsideAll g.strands (length (store_of a).memory) → Go i spare (on a) b
 
   -- A strand that waits, over the store of the moment.
   pub data Hang (i c : ℕ) : Strung → Held → Store → Type 0 where
-    fresh : (old old' s' : Store) (l : Left) (li : i < count) → LeftFits (wd i) l → ClearOut (strand_at g i).area g.strands l.outcomes → Hang i c (on (between old l)) (free old' l) s'
+    fresh : (old old' s' : Store) (l : Left) (li : i < count) → LeftFits (wd i) l → Hang i c (on (between old l)) (free old' l) s'
     suspended : (top imp : ℕ) (e : Entry) (a : Answer) (lo : Left) (d d' : Configuration) (at s' : Store) (li : i < count)
         → Suspends (wd i) (ft i li) (store_laws (wd i)) (L i) (W i) G (law i li) top imp e a lo d' c s' → d'.here ≡ d.here → d'.under ≡ d.under
-        → Known i (rewound_from (wd i) e imp a lo at) → length at.memory ≤ length s'.memory → ClearOut (strand_at g i).area g.strands lo.outcomes → ClearPokes g.strands a.pokes
+        → Known i (rewound_from (wd i) e imp a lo at) → length at.memory ≤ length s'.memory → ClearPokes g.strands a.pokes
         → Hang i c (waits (an_entry e) d a lo) (rewound_from (wd i) e imp a lo at) s'
 
   abbrev pub Q : ℕ → Note → Note → Type 0
@@ -360,10 +360,10 @@ module _ (family : Family) (laws : FamilyLaws family) where
   -- ---- a strand that waits goes on waiting
 
   pub hangs_on : (i c : ℕ) (a : Strung) (b : Held) (s s' : Store) → Hang i c a b s → Kept i s s' → Hang i c a b s'
-  hangs_on i c _ _ s s' (fresh old old' _ l li lf cl) kp = fresh old old' s' l li lf cl
-  hangs_on i c _ _ s s' (suspended top imp e a lo d d' at _ li sp eh eu kn more cl cp) kp =
+  hangs_on i c _ _ s s' (fresh old old' _ l li lf) kp = fresh old old' s' l li lf
+  hangs_on i c _ _ s s' (suspended top imp e a lo d d' at _ li sp eh eu kn more cp) kp =
       suspended top imp e a lo d d' at s' li (suspends_on (wd i) (ft i li) (store_laws (wd i)) (L i) (W i) G (law i li) top imp e a lo d' c s s' sp kp) eh eu kn
-      (let gr = kp.grown in omega arith) cl cp
+      (let gr = kp.grown in omega arith) cp
 
   -- ---- notes
 

@@ -1,18 +1,19 @@
 -- Where a strand ends alone: the written module's last move, and the stores there.
+use Rattle.run_theory.proofs.TestedPokes.{passes_area}
 use Rattle.headline.specs.FlatLaw.{FlatAsks, FlatLaw, FlatNext, FlatReturns, FlatTraps}
 use Rattle.headline.specs.Halts.{room_in, used_in}
 use Rattle.headline.specs.StoreLaws.{StoreLaws}
 use Rattle.headline.specs.World.{World, WorldFits, base, setting}
-use Rattle.headline.proofs.Asks.{Called, answer_fits, by_said, first_fits, no_bad_poke, no_pause_in_start, tested_now, to_call}
+use Rattle.headline.proofs.Asks.{Called, answer_fits, by_said, first_fits, no_pause_in_start, tested_now, to_call}
 use Rattle.headline.proofs.FlatStretches.{along, other_top, pr, then_returns, then_traps, up_to, xp}
 use Rattle.headline.proofs.Reductions.{Allowed, LeftFits, Link, R, TopOf, nn, r_begins, r_between, r_halts, r_runs, seen0, sh}
 use Rattle.headline.proofs.ToldMoves.{silent_on}
 use Rattle.headline.proofs.TrapStores.{trap_keeps}
 use Rattle.guard_runs.specs.Alike.{Alike}
 use Rattle.std.proofs.Common.{All, Bool, List, None, Option, Some, [], ap, false, inl, inr, length, refl, subst, suc, sym, true, zero, ℕ, ◌⊎◌, ◌*◌, ◌+◌, ◌++◌, ◌<◌, ◌∙◌, ◌∷◌, ◌≡◌, ◌≤◌}
-use Rattle.std.specs.Prelude.{if◌then◌else◌, nat_le, nat_lt, not, ◌&&◌}
+use Rattle.std.specs.Prelude.{if◌then◌else◌, nat_lt}
 use Rattle.std.proofs.lemmas.Bool.{ltb-true}
-use Rattle.wa_model.specs.Blocking.{Left, Note, State, Task, an_entry, answers, asked, bad_pause, bad_poke, bad_value, by_step, call_note, done_notes, enter_next, enters, fault_of, go_on, import_traps, inside, is_unlisted, on_to, or_else, overlap}
+use Rattle.wa_model.specs.Blocking.{Left, Note, State, Task, an_entry, answers, asked, bad_pause, bad_poke, bad_value, by_step, call_note, done_notes, enter_next, enters, fault_of, go_on, import_traps, inside, is_unlisted, on_to, or_else, poke_fits}
 use Rattle.wa_model.specs.Blocking.{start_called, task_back, tested, halts, is_start, next_entry, note, outermost, pause_of, poked, runs, store_of, the_start, value_of_results, with_outcomes}
 use Rattle.wa_model.specs.Configuration.{Configuration, stack_of}
 use Rattle.wa_model.specs.Machine.{Leads, Turn, goes, stays, stops}
@@ -144,7 +145,7 @@ module _ (w : World) (ft : WorldFits w) (sl : StoreLaws w) (L : (top spare : ℕ
         tested_now w ft sl L W G law n spare top x within task c b l is_top lk lf al k i args d is cd a os None eo ef
         ∙ ap (held_tested w.written (xp w) w.plan cd.j i args (inside task cd.at) lo a None) et
         ∙ ap (λ z. held_given cd.j y1 z (poked s1 a.pokes) lo (inside task cd.at)) told in
-        let no_bad = no_bad_poke (func_type_at (base w) i).results (length d.store.memory) w.plan (is_start task) i a ef in
+        let no_bad = passes_area (func_type_at (base w) i).results (length d.store.memory) w.plan (is_start task) i a ef in
         record {
           c1 = cd.cost;
           k1 = cd.j;
@@ -202,7 +203,7 @@ module _ (w : World) (ft : WorldFits w) (sl : StoreLaws w) (L : (top spare : ℕ
         last = mv;
         tells = refl;
         starts = refl;
-        alike = sl.poked_too 0 s s' a like (no_bad_poke (func_type_at (base w) x).results (length s.memory) w.plan true x a ef);
+        alike = sl.poked_too 0 s s' a like (passes_area (func_type_at (base w) x).results (length s.memory) w.plan true x a ef);
         good = law.poked_good x s true a good fits ef;
       }
 
@@ -225,7 +226,7 @@ module _ (w : World) (ft : WorldFits w) (sl : StoreLaws w) (L : (top spare : ℕ
         last = mv0 ∙ ap (λ z. held_given 0 (call_note x [] s' [] None) z t' (with_outcomes l os) (outermost s')) told;
         tells = refl;
         starts = refl;
-        alike = sl.poked_too 0 s s' a like (no_bad_poke (func_type_at (base w) x).results (length s.memory) w.plan true x a ef);
+        alike = sl.poked_too 0 s s' a like (passes_area (func_type_at (base w) x).results (length s.memory) w.plan true x a ef);
         good = law.poked_good x s true a good fits ef;
       }
 
@@ -280,11 +281,11 @@ module _ (w : World) (ft : WorldFits w) (sl : StoreLaws w) (L : (top spare : ℕ
   else_stays None b h g = g
   else_stays (Some e) b h g = h
 
-  poke_stays : (n : ℕ) (area : Area) (qs : List Poke) → StaysIf (bad_poke n area qs)
-  poke_stays n area [] = tt
-  poke_stays n area (q ∷ qs) = by (nat_le (q.at + length q.bytes) n && not (overlap q.at (length q.bytes) area.at area.len)) (poke_stays n area qs)
+  poke_stays : (n : ℕ) (areas : List Area) (qs : List Poke) → StaysIf (bad_poke n areas qs)
+  poke_stays n areas [] = tt
+  poke_stays n areas (q ∷ qs) = by (poke_fits n areas q) (poke_stays n areas qs)
     where
-      by : (t : Bool) → StaysIf (bad_poke n area qs) → StaysIf (if t then bad_poke n area qs else Some (BadPoke q.at (length q.bytes)))
+      by : (t : Bool) → StaysIf (bad_poke n areas qs) → StaysIf (if t then bad_poke n areas qs else Some (BadPoke q.at (length q.bytes)))
       by true ih = ih
       by false ih = λ st. refl
 
@@ -305,7 +306,7 @@ module _ (w : World) (ft : WorldFits w) (sl : StoreLaws w) (L : (top spare : ℕ
   fault_stays : (types : List ValType) (n : ℕ) (start : Bool) (i : ℕ) (a : Answer) → StaysIf (fault_of types n w.plan start i a)
   fault_stays types n start i a =
       else_stays (bad_value types i a.said) _ (value_stays types i a.said)
-      (else_stays (bad_poke n w.plan.area a.pokes) _ (poke_stays n w.plan.area a.pokes) (pause_stays start (is_unlisted w.plan.listed i) i a.ticks))
+      (else_stays (bad_poke n (w.plan.area ∷ w.plan.others) a.pokes) _ (poke_stays n (w.plan.area ∷ w.plan.others) a.pokes) (pause_stays start (is_unlisted w.plan.listed i) i a.ticks))
 
   ended_one : (how how2 : End) → Some (ended how) ≡ Some (ended how2) → how ≡ how2
   ended_one how how2 e = cc

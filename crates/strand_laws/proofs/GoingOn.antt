@@ -1,5 +1,5 @@
 -- A world of strands that was told up to some turn goes on to an end.
-use Rattle.std.proofs.Common.{arith, ◌≡◌, ◌<◌, ◌≤◌, ◌⊎◌, inl, inr, ℕ, zero, suc, ◌+◌, List, [], ◌∷◌, ◌++◌, length, drop, All, Some, None, Bool, true, false, refl, sym, ap, ◌∙◌, subst, ⊎_elim}
+use Rattle.std.proofs.Common.{arith, ◌≡◌, ◌<◌, ◌≤◌, ◌⊎◌, inl, inr, ℕ, zero, suc, ◌+◌, List, [], ◌∷◌, ◌++◌, length, drop, Some, None, Bool, true, false, refl, sym, ap, ◌∙◌, subst, ⊎_elim}
 use Rattle.std.specs.Prelude.{slice_get}
 use Rattle.std.specs.List.{AllZip}
 use Rattle.std.proofs.lemmas.Bool.{cases_lt}
@@ -42,10 +42,6 @@ over_at : (xs : List Actor) (i : ℕ) (a : Actor) → IsOver xs → slice_get xs
 over_at [] i a h e = none_is a e
 over_at (x ∷ xs) zero a h e = subst HasNone (the_same x a e) (All-head HasNone x xs h)
 over_at (x ∷ xs) (suc i) a h e = over_at xs i a (All-tail HasNone x xs h) e
-
-pub all_front : {A : Type 0} (P : A → Type 0) (xs ys : List A) → All P (xs ++ ys) → All P xs
-all_front P [] ys h = All-nil P
-all_front P (x ∷ xs) ys h = All-cons P x xs (All-head P x (xs ++ ys) h) (all_front P xs ys (All-tail P x (xs ++ ys) h))
 
 -- ---- one program that goes on
 

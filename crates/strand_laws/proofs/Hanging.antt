@@ -4,11 +4,12 @@ use Rattle.frame_laws.specs.Stack.{AllFit, HoldsStack, Level, level_size, total_
 use Rattle.guard_runs.specs.Pause.{SuspendedIn}
 use Rattle.std.proofs.Common.{Bool, List, None, Option, Some, [], ap, arith, false, length, refl, true, ℕ, ◌+◌, ◌∙◌, ◌∷◌, ◌≡◌, ◌≤◌}
 use Rattle.std.proofs.lemmas.Bool.{leb-true}
-use Rattle.std.specs.Prelude.{if◌then◌else◌, nat_le, not, ◌&&◌}
+use Rattle.std.specs.Prelude.{if◌then◌else◌, nat_le, ◌&&◌}
+use Rattle.std.specs.List.{list_all}
 use Rattle.wa_model.specs.declared.answers.Area.{Area}
 use Rattle.wa_model.specs.declared.events.End.{End}
 use Rattle.wa_model.specs.declared.events.End.TheVariants.{BadPoke}
-use Rattle.wa_model.specs.Blocking.{bad_pause, bad_poke, bad_value, fault_of, is_unlisted, or_else, overlap}
+use Rattle.wa_model.specs.Blocking.{bad_pause, bad_poke, bad_value, fault_of, is_off, is_unlisted, or_else}
 use Rattle.wa_model.specs.Outside.{Answer, Poke}
 use Rattle.wa_model.specs.Plan.{Plan}
 use Rattle.wa_model.specs.Store.{Store}
@@ -44,16 +45,16 @@ suspended_on g area p st adr s s' vs h room fit k = record {
 le_leb : (a b : ℕ) → a ≤ b → nat_le a b ≡ true
 le_leb a b h = grind arith
 
-poke_more : (n m : ℕ) (area : Area) (qs : List Poke) → n ≤ m → bad_poke n area qs ≡ None → bad_poke m area qs ≡ None
-poke_more n m area [] le h = refl
-poke_more n m area (q ∷ qs) le h = by (λ g. poke_more n m area qs le g) (nat_le (q.at + length q.bytes) n) refl (not (overlap q.at (length q.bytes) area.at area.len)) h
+poke_more : (n m : ℕ) (areas : List Area) (qs : List Poke) → n ≤ m → bad_poke n areas qs ≡ None → bad_poke m areas qs ≡ None
+poke_more n m areas [] le h = refl
+poke_more n m areas (q ∷ qs) le h = by (λ g. poke_more n m areas qs le g) (nat_le (q.at + length q.bytes) n) refl (list_all (is_off q) areas) h
   where
-    by : (bad_poke n area qs ≡ None → bad_poke m area qs ≡ None) → (t : Bool) → nat_le (q.at + length q.bytes) n ≡ t → (u : Bool)
-        → (if t && u then bad_poke n area qs else Some (BadPoke q.at (length q.bytes))) ≡ None
-        → (if nat_le (q.at + length q.bytes) m && u then bad_poke m area qs else Some (BadPoke q.at (length q.bytes))) ≡ None
+    by : (bad_poke n areas qs ≡ None → bad_poke m areas qs ≡ None) → (t : Bool) → nat_le (q.at + length q.bytes) n ≡ t → (u : Bool)
+        → (if t && u then bad_poke n areas qs else Some (BadPoke q.at (length q.bytes))) ≡ None
+        → (if nat_le (q.at + length q.bytes) m && u then bad_poke m areas qs else Some (BadPoke q.at (length q.bytes))) ≡ None
     by ih true et true e =
         let few : q.at + length q.bytes ≤ n = leb-true (q.at + length q.bytes) n et in
-        ap (λ (z : Bool). if z && true then bad_poke m area qs else Some (BadPoke q.at (length q.bytes))) (le_leb (q.at + length q.bytes) m (omega arith)) ∙ ih e
+        ap (λ (z : Bool). if z && true then bad_poke m areas qs else Some (BadPoke q.at (length q.bytes))) (le_leb (q.at + length q.bytes) m (omega arith)) ∙ ih e
     by ih true et false e = cc
     by ih false et u e = cc
 
@@ -67,6 +68,6 @@ else_swap (Some e) b' c f h = cc
 
 pub passes_on : (types : List ValType) (n m : ℕ) (plan : Plan) (start : Bool) (i : ℕ) (a : Answer) → n ≤ m → fault_of types n plan start i a ≡ None → fault_of types m plan start i a ≡ None
 passes_on types n m plan start i a le h =
-    else_more (bad_value types i a.said) (or_else (bad_poke n plan.area a.pokes) (bad_pause start (is_unlisted plan.listed i) i a.ticks))
-    (or_else (bad_poke m plan.area a.pokes) (bad_pause start (is_unlisted plan.listed i) i a.ticks))
-    (else_swap (bad_poke n plan.area a.pokes) (bad_poke m plan.area a.pokes) (bad_pause start (is_unlisted plan.listed i) i a.ticks) (poke_more n m plan.area a.pokes le)) h
+    else_more (bad_value types i a.said) (or_else (bad_poke n (plan.area ∷ plan.others) a.pokes) (bad_pause start (is_unlisted plan.listed i) i a.ticks))
+    (or_else (bad_poke m (plan.area ∷ plan.others) a.pokes) (bad_pause start (is_unlisted plan.listed i) i a.ticks))
+    (else_swap (bad_poke n (plan.area ∷ plan.others) a.pokes) (bad_poke m (plan.area ∷ plan.others) a.pokes) (bad_pause start (is_unlisted plan.listed i) i a.ticks) (poke_more n m (plan.area ∷ plan.others) a.pokes le)) h

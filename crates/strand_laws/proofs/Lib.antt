@@ -25,6 +25,7 @@ pub mod Moving
 pub mod NextMoves
 pub mod NextTurn
 pub mod Numbered
+pub mod OneArea
 pub mod OneExpected
 pub mod OneRun
 pub mod OneStrand

@@ -1,8 +1,8 @@
 -- Blocking runs over stores that differ in one area, of which they touch no byte: the moves are the same, and so are the bytes there.
-use Rattle.std.proofs.Common.{◌≡◌, ℕ, suc, ◌+◌, ◌≤◌, ◌<◌, List, [], ◌∷◌, ◌++◌, length, Option, Some, None, Bool, true, false, All, refl, sym, ap, ◌∙◌, subst, inl, inr, ⊎_elim, ◌⊎◌, arith}
-use Rattle.std.proofs.lemmas.Bool.{leb-true}
+use Rattle.run_theory.proofs.TestedPokes.{first_fits, fits_inside, fits_off, pokes_pass}
+use Rattle.std.proofs.Common.{◌≡◌, ℕ, ◌+◌, ◌≤◌, List, [], ◌∷◌, ◌++◌, length, Option, Some, None, Bool, true, false, refl, sym, ap, ◌∙◌, subst, inl, inr, ⊎_elim, arith}
 use Rattle.std.specs.Option.{option_to_list}
-use Rattle.std.specs.Prelude.{if◌then◌else◌, nat_lt, nat_le, map, not, ◌&&◌}
+use Rattle.std.specs.Prelude.{if◌then◌else◌, nat_lt, map}
 use Rattle.wa_types.specs.declared.values.Value.{Value}
 use Rattle.wa_types.specs.Memory.{overwritten}
 use Rattle.wa_types.specs.Modules.{defined_at, func_imports, func_type_at}
@@ -12,7 +12,7 @@ use Rattle.wa_model.specs.declared.answers.Area.{Area}
 use Rattle.wa_model.specs.declared.answers.Said.{Said}
 use Rattle.wa_model.specs.declared.answers.Said.TheVariants as S
 use Rattle.wa_model.specs.declared.events.End.{End}
-use Rattle.wa_model.specs.declared.events.End.TheVariants.{BadPoke, Trapped}
+use Rattle.wa_model.specs.declared.events.End.TheVariants.{Trapped}
 use Rattle.wa_model.specs.Outside.{Answer, Poke, answered, ended}
 use Rattle.wa_model.specs.Blocking.{Asker, Left, Note, State, Task, an_entry, asked, bad_poke, begins, between, blocking, by_step, call_note, done_notes, ends_at_call, enter_next, enters, fault_of, go_on, halts, import_traps}
 use Rattle.wa_model.specs.Blocking.{in_start, inside, next_entry, note, on_to, outermost, overlap, pause_of, poked, resumed, runs, stack_at, start_called, store_at, store_of, task_back, tested, the_start, with_outcomes}
@@ -22,10 +22,8 @@ use Rattle.wa_model.specs.Plan.{Entry, Outcome, Plan, given, refused}
 use Rattle.wa_model.specs.Step.{Next, asks, returns, step, steps, stuck, traps}
 use Rattle.wa_model.specs.Store.{Store, with_memory}
 use Rattle.wa_model.specs.Untouched.{IsCalm, StaysOff, next_ranges, ranges_in}
-use Rattle.headline.proofs.Asks.{no_bad_poke}
 use Rattle.guard_runs.proofs.Stores.{Wrote, long, neither, wrote}
 use Rattle.strand_laws.proofs.Apart.{Apart, ApartAt, Gap, NextApart, off, reduces_apart, written_too}
-use Rattle.strand_laws.specs.Strands.{PokesOff}
 
 -- what belongs to notes, states, turns over such stores
 pub record NoteApart (p : Gap) (x x' : Note) : Type 0 where
@@ -50,18 +48,9 @@ pub data TurnApart (p : Gap) : Turn State Note → Turn State Note → Type 0 wh
   both_stop : TurnApart p stops stops
   both_go : {k : ℕ} {es es' : List Note} {t t' : State} → NotesApart p es es' → StateApart p t t' → TurnApart p (goes k es t) (goes k es' t')
 
--- the outcomes keep off the area, if it isn't the strand's own: an answer that pokes that isn't given
-abbrev pub OffOther : (own area : Area) → List Outcome → Type 0
-OffOther own area os = (area ≡ own) ⊎ All (PokesOff (area ∷ [])) os
-
-abbrev pub LeftOff : Area → Gap → Left → Type 0
-LeftOff own p l = OffOther own p.area l.outcomes
-
-abbrev pub OutcomesOff : Area → Gap → State → Type 0
-OutcomesOff own p (between s l) = LeftOff own p l
-OutcomesOff own p (begins x s l) = LeftOff own p l
-OutcomesOff own p (runs task c l) = LeftOff own p l
-OutcomesOff own p (halts s) = Unit {0}
+-- the pokes of answers that pass a plan's tests keep off the area
+abbrev pub Guards : Plan → Area → Type 0
+Guards plan area = (size : ℕ) (qs : List Poke) → bad_poke size (plan.area ∷ plan.others) qs ≡ None → bad_poke size (area ∷ []) qs ≡ None
 
 module _ (p : Gap) where
   pub size_apart : (s s' : Store) → Apart p s s' → length s'.memory ≡ length s.memory
@@ -123,23 +112,15 @@ module _ (p : Gap) where
             table = h.table;
           }
 
-  pub bad_head : (size : ℕ) (area : Area) (q : Poke) (qs : List Poke) → bad_poke size area (q ∷ qs) ≡ None → (q.at + length q.bytes ≤ size) × (bad_poke size area qs ≡ None)
-  bad_head size area q qs e = by (nat_le (q.at + length q.bytes) size) refl (not (overlap q.at (length q.bytes) area.at area.len)) e
-    where
-      by : (t : Bool) → nat_le (q.at + length q.bytes) size ≡ t → (u : Bool) → (if t && u then bad_poke size area qs else Some (BadPoke q.at (length q.bytes))) ≡ None
-          → (q.at + length q.bytes ≤ size) × (bad_poke size area qs ≡ None)
-      by true et true e = (leb-true (q.at + length q.bytes) size et, e)
-      by true et false e = cc
-      by false et u e = cc
-
-  pub pokes_apart : (s s' : Store) (area : Area) (qs : List Poke) → bad_poke (length s.memory) area qs ≡ None → EveryOff qs → Apart p s s'
+  pub pokes_apart : (s s' : Store) (areas : List Area) (qs : List Poke) → bad_poke (length s.memory) areas qs ≡ None → EveryOff qs → Apart p s s'
       → Apart p (poked s qs) (poked s' qs)
-  pokes_apart s s' area [] e offs h = h
-  pokes_apart s s' area (q ∷ qs) e offs h =
-      let b = bad_head (length s.memory) area q qs e in
-      let n : length (overwritten s.memory q.at q.bytes) ≡ length s.memory = Rattle.wa_types.proofs.MemoryLemmas.length-overwritten s.memory q.at q.bytes b.0 in
-      pokes_apart (with_memory s (overwritten s.memory q.at q.bytes)) (with_memory s' (overwritten s'.memory q.at q.bytes)) area qs (subst (λ z. bad_poke z area qs ≡ None) (sym n) b.1) offs.1
-      (put_apart s s' q.at q.bytes b.0 offs.0 h)
+  pokes_apart s s' areas [] e offs h = h
+  pokes_apart s s' areas (q ∷ qs) e offs h =
+      let b = first_fits (length s.memory) areas q qs e in
+      let le = fits_inside (length s.memory) areas q b.0 in
+      let n : length (overwritten s.memory q.at q.bytes) ≡ length s.memory = Rattle.wa_types.proofs.MemoryLemmas.length-overwritten s.memory q.at q.bytes le in
+      pokes_apart (with_memory s (overwritten s.memory q.at q.bytes)) (with_memory s' (overwritten s'.memory q.at q.bytes)) areas qs (subst (λ z. bad_poke z areas qs ≡ None) (sym n) b.1) offs.1
+      (put_apart s s' q.at q.bytes le offs.0 h)
 
   -- ---- answers and calls
 
@@ -189,35 +170,12 @@ module _ (p : Gap) where
   gives_apart m k i args v v' l S.Trap s s' o h g =
       trap_apart k (call_note i args (store_at v) (stack_at m v) o) (call_note i args (store_at v') (stack_at m v') o) s s' (call_apart m i args v v' o h) g
 
-  pub pokes_off : (a : Answer) (os : List Outcome) → All (PokesOff (p.area ∷ [])) (given a ∷ os) → EveryOff a.pokes
-  pokes_off a os h = let lt : 0 < length (given a ∷ os) = omega arith in every a.pokes (h 0 (given a) lt)
-    where
-      every : (qs : List Poke) → All (λ (q : Poke). All (λ (x : Area). overlap q.at (length q.bytes) x.at x.len ≡ false) (p.area ∷ [])) qs → EveryOff qs
-      every [] g = tt
-      every (q ∷ qs) g =
-          let lt : 0 < length (q ∷ qs) = omega arith in
-          let one : 0 < length (p.area ∷ []) = omega arith in
-          (g 0 q lt 0 p.area one, every qs (λ k x less. let more : suc k < length (q ∷ qs) = omega arith in g (suc k) x more))
+  -- pokes that pass the test of the area
+  pub answer_off : (size : ℕ) (qs : List Poke) → bad_poke size (p.area ∷ []) qs ≡ None → EveryOff qs
+  answer_off size [] e = tt
+  answer_off size (q ∷ qs) e = let b = first_fits size (p.area ∷ []) q qs e in (fits_off size p.area [] q b.0, answer_off size qs b.1)
 
-  -- pokes that pass the test of the strand's own area
-  own_off : (size : ℕ) (own : Area) (qs : List Poke) → p.area ≡ own → bad_poke size own qs ≡ None → EveryOff qs
-  own_off size own [] same e = tt
-  own_off size own (q ∷ qs) same e = (
-    subst (λ (z : Area). overlap q.at (length q.bytes) z.at z.len ≡ false) (sym same)
-        (by (nat_le (q.at + length q.bytes) size) (overlap q.at (length q.bytes) own.at own.len) e),
-    own_off size own qs same (bad_head size own q qs e).1,
-  )
-    where
-      by : (t u : Bool) → (if t && not u then bad_poke size own qs else Some (BadPoke q.at (length q.bytes))) ≡ None → u ≡ false
-      by true true e = cc
-      by true false e = refl
-      by false u e = cc
-
-  -- an answer that passes its tests
-  pub answer_off : (own : Area) (size : ℕ) (a : Answer) (os : List Outcome) → bad_poke size own a.pokes ≡ None → OffOther own p.area (given a ∷ os) → EveryOff a.pokes
-  answer_off own size a os e off_ = ⊎_elim (λ same. own_off size own a.pokes same e) (λ h. pokes_off a os h) off_
-
-  asked_apart : (m : Module) (plan : Plan) (k i : ℕ) (args : List Value) (v v' : Asker) (l : Left) (os : List Outcome) → OffOther plan.area p.area os → AskerApart v v'
+  asked_apart : (m : Module) (plan : Plan) (k i : ℕ) (args : List Value) (v v' : Asker) (l : Left) (os : List Outcome) → Guards plan p.area → AskerApart v v'
       → TurnApart p (asked m plan k i args v l os) (asked m plan k i args v' l os)
   asked_apart m plan k i args v v' l [] off_ h = both_go (call_apart m i args v v' None h, tt) (s_halts (asker_store v v' h))
   asked_apart m plan k i args v v' l (refused e ∷ os) off_ h = ends_apart m k i args v v' e h
@@ -230,21 +188,21 @@ module _ (p : Gap) where
           ap (λ z. fault_of (func_type_at m i).results z plan (in_start v') i a) (size_apart (store_at v) (store_at v') (asker_store v v' h))
           ∙ ap (λ z. fault_of (func_type_at m i).results (length (store_at v).memory) plan z i a) (asker_start v v' h)
 
-      passed : fault_of (func_type_at m i).results (length (store_at v).memory) plan (in_start v) i a ≡ None → bad_poke (length (store_at v).memory) plan.area a.pokes ≡ None
-      passed ef = no_bad_poke (func_type_at m i).results (length (store_at v).memory) plan (in_start v) i a ef
+      passed : fault_of (func_type_at m i).results (length (store_at v).memory) plan (in_start v) i a ≡ None → bad_poke (length (store_at v).memory) (p.area ∷ []) a.pokes ≡ None
+      passed ef = off_ (length (store_at v).memory) a.pokes (pokes_pass (func_type_at m i).results (length (store_at v).memory) plan (in_start v) i a ef)
 
       by_fault : (o : Option End) → fault_of (func_type_at m i).results (length (store_at v).memory) plan (in_start v) i a ≡ o
           → TurnApart p (tested m k i args v (with_outcomes l os) a o) (tested m k i args v' (with_outcomes l os) a o)
       by_fault (Some e) ef = ends_apart m k i args v v' e h
       by_fault None ef =
           gives_apart m k i args v v' (with_outcomes l os) a.said (poked (store_at v) a.pokes) (poked (store_at v') a.pokes) (pause_of a.ticks) h
-          (pokes_apart (store_at v) (store_at v') plan.area a.pokes (passed ef) (answer_off plan.area (length (store_at v).memory) a os (passed ef) off_) (asker_store v v' h))
+          (pokes_apart (store_at v) (store_at v') (p.area ∷ []) a.pokes (passed ef) (answer_off (length (store_at v).memory) a.pokes (passed ef)) (asker_store v v' h))
 
   back_apart : (k : ℕ) (task : Task) (vs : List Value) (s s' : Store) (l : Left) → Apart p s s' → TurnApart p (task_back k task vs s l) (task_back k task vs s' l)
   back_apart k the_start vs s s' l h = both_go (done_apart s s' l.entries h) (on_apart s s' l l.entries h)
   back_apart k (an_entry e) vs s s' l h = both_go (note_apart _ s s' h, done_apart s s' l.entries h) (on_apart s s' (next_entry l) l.entries h)
 
-  by_step_apart : (m : Module) (plan : Plan) (task : Task) (l : Left) (o o' : Next) → LeftOff plan.area p l → NextApart p o o' → TurnApart p (by_step m plan task l o) (by_step m plan task l o')
+  by_step_apart : (m : Module) (plan : Plan) (task : Task) (l : Left) (o o' : Next) → Guards plan p.area → NextApart p o o' → TurnApart p (by_step m plan task l o) (by_step m plan task l o')
   by_step_apart m plan task l (steps k d) (steps k' d') off_ h = subst (λ z. TurnApart p (goes k [] (runs task d l)) (goes z [] (runs task d' l))) (sym h.0) (both_go tt (s_runs h.1))
   by_step_apart m plan task l (asks k i args d) (asks k' i' args' d') off_ h =
       subst (λ z. TurnApart p (asked m plan k i args (inside task d) l l.outcomes) (asked m plan z i' args' (inside task d') l l.outcomes)) (sym h.0)
@@ -281,7 +239,7 @@ module _ (p : Gap) where
   by_step_apart m plan task l stuck (traps k' t' s') off_ h = absurd h
 
   -- A MOVE THAT STAYS OFF THE AREA is the same whatever bytes are there, and leaves them in both.
-  pub blocks_apart : (m : Module) (plan : Plan) (a a' : State) → StateApart p a a' → IsCalm p.area a → OutcomesOff plan.area p a → TurnApart p (blocking m plan a) (blocking m plan a')
+  pub blocks_apart : (m : Module) (plan : Plan) (a a' : State) → StateApart p a a' → IsCalm p.area a → Guards plan p.area → TurnApart p (blocking m plan a) (blocking m plan a')
   blocks_apart m plan _ _ (s_between {s = s} {s' = s'} {l = l} h) calm off_ = by_entries l.entries
     where
       by_func : (e : Entry) (l2 : Left) (f : Option Func) → TurnApart p (enters e s l2 f) (enters e s' l2 f)
@@ -320,24 +278,22 @@ abbrev pub MiddleNotes : List Gap → List Note → List Note → Type 0
 MiddleNotes [] es es' = es ≡ es'
 MiddleNotes (p ∷ ps) es es' = (us : List Note) × NotesApart p es us × MiddleNotes ps us es'
 
--- each area is kept off, now and by the outcomes that are left
-abbrev pub AllOff : (own : Area) → List Gap → State → Type 0
-AllOff own [] a = Unit {0}
-AllOff own (p ∷ ps) a = (IsCalm p.area a × OutcomesOff own p a) × AllOff own ps a
+-- each area is kept off, now and by the answers of a plan
+abbrev pub AllOff : Plan → List Gap → State → Type 0
+AllOff plan [] a = Unit {0}
+AllOff plan (p ∷ ps) a = (IsCalm p.area a × Guards plan p.area) × AllOff plan ps a
 
-pub calm_apart : (own : Area) (p q : Gap) (a a' : State) → StateApart p a a' → IsCalm q.area a × OutcomesOff own q a → IsCalm q.area a' × OutcomesOff own q a'
-calm_apart own p q _ _ (s_between h) g = (tt, g.1)
-calm_apart own p q _ _ (s_begins h) g = (tt, g.1)
-calm_apart own p q _ _ (s_runs {c = c} {c' = c'} h) g = (
-  subst (λ z. StaysOff q.area z (next_ranges c')) (sym (size_apart p c.store c'.store h.store))
-      (subst (λ (z : Rattle.wa_model.specs.Configuration.Activation). StaysOff q.area (length c.store.memory) (ranges_in z.operands z.code)) (sym h.here) g.0),
-  g.1,
-)
-calm_apart own p q _ _ (s_halts h) g = (tt, tt)
+pub calm_apart : (area : Area) (p : Gap) (a a' : State) → StateApart p a a' → IsCalm area a → IsCalm area a'
+calm_apart area p _ _ (s_between h) g = tt
+calm_apart area p _ _ (s_begins h) g = tt
+calm_apart area p _ _ (s_runs {c = c} {c' = c'} h) g =
+    subst (λ z. StaysOff area z (next_ranges c')) (sym (size_apart p c.store c'.store h.store))
+    (subst (λ (z : Rattle.wa_model.specs.Configuration.Activation). StaysOff area (length c.store.memory) (ranges_in z.operands z.code)) (sym h.here) g)
+calm_apart area p _ _ (s_halts h) g = tt
 
-pub all_apart : (own : Area) (p : Gap) (qs : List Gap) (a a' : State) → StateApart p a a' → AllOff own qs a → AllOff own qs a'
-all_apart own p [] a a' h g = tt
-all_apart own p (q ∷ qs) a a' h g = (calm_apart own p q a a' h g.0, all_apart own p qs a a' h g.1)
+pub all_apart : (plan : Plan) (p : Gap) (qs : List Gap) (a a' : State) → StateApart p a a' → AllOff plan qs a → AllOff plan qs a'
+all_apart plan p [] a a' h g = tt
+all_apart plan p (q ∷ qs) a a' h g = ((calm_apart q.area p a a' h g.0.0, g.0.1), all_apart plan p qs a a' h g.1)
 
 -- the same move, of that cost
 pub record MovesSame (ps : List Gap) (m : Module) (plan : Plan) (k : ℕ) (es : List Note) (t a' : State) : Type 0 where
@@ -361,15 +317,15 @@ apart_stops p _ _ both_stop e = refl
 apart_stops p _ _ (both_go ns st) e = cc
 
 -- A MOVE OVER ANY BYTES OF THESE AREAS
-pub moves_same : (ps : List Gap) (m : Module) (plan : Plan) (a a' t : State) (k : ℕ) (es : List Note) → Middle ps a a' → AllOff plan.area ps a
+pub moves_same : (ps : List Gap) (m : Module) (plan : Plan) (a a' t : State) (k : ℕ) (es : List Note) → Middle ps a a' → AllOff plan ps a
     → blocking m plan a ≡ goes k es t → MovesSame ps m plan k es t a'
 moves_same [] m plan a a' t k es h off_ e = record { events = es; to = t; goes_too = ap (blocking m plan) (sym h) ∙ e; notes = refl; on = refl }
 moves_same (p ∷ ps) m plan a a' t k es h off_ e =
     let g = apart_goes p (blocking m plan a) (blocking m plan h.0) k es t (blocks_apart p m plan a h.0 h.1 off_.0.0 off_.0.1) e in
-    let r = moves_same ps m plan h.0 a' g.1 k g.0 h.2 (all_apart plan.area p ps a h.0 h.1 off_.1) g.2 in
+    let r = moves_same ps m plan h.0 a' g.1 k g.0 h.2 (all_apart plan p ps a h.0 h.1 off_.1) g.2 in
     record { events = r.events; to = r.to; goes_too = r.goes_too; notes = (g.0, g.3, r.notes); on = (g.1, g.4, r.on) }
 
-pub stops_same : (ps : List Gap) (m : Module) (plan : Plan) (a a' : State) → Middle ps a a' → AllOff plan.area ps a → blocking m plan a ≡ stops → blocking m plan a' ≡ stops
+pub stops_same : (ps : List Gap) (m : Module) (plan : Plan) (a a' : State) → Middle ps a a' → AllOff plan ps a → blocking m plan a ≡ stops → blocking m plan a' ≡ stops
 stops_same [] m plan a a' h off_ e = ap (blocking m plan) (sym h) ∙ e
 stops_same (p ∷ ps) m plan a a' h off_ e =
-    stops_same ps m plan h.0 a' h.2 (all_apart plan.area p ps a h.0 h.1 off_.1) (apart_stops p (blocking m plan a) (blocking m plan h.0) (blocks_apart p m plan a h.0 h.1 off_.0.0 off_.0.1) e)
+    stops_same ps m plan h.0 a' h.2 (all_apart plan p ps a h.0 h.1 off_.1) (apart_stops p (blocking m plan a) (blocking m plan h.0) (blocks_apart p m plan a h.0 h.1 off_.0.0 off_.0.1) e)

@@ -24,7 +24,6 @@ use Rattle.wa_types.specs.Pausing.{Settings}
 use Rattle.wa_types.specs.Syntax.{Module}
 use Rattle.strand_laws.proofs.Apart.{Gap}
 use Rattle.strand_laws.proofs.Between.{AreGaps, InsideAll, middle_chain}
-use Rattle.strand_laws.proofs.Clear.{ClearState}
 use Rattle.strand_laws.proofs.InStep as I
 use Rattle.strand_laws.proofs.Middle.{Middle, MiddleNotes}
 use Rattle.strand_laws.proofs.MoveKinds.{FirstPlain}
@@ -275,7 +274,7 @@ module _ (family : Family) (laws : FamilyLaws family) where
       (rel : (Rel family laws) i li 0 spare a' b)
       (kn : Known i b) (ins : InsideAll g.strands (length (store_of a).memory)) (allowed : Allowed (wd i) (suc k) a') (moves_so : nn (wd i) a' ≡ goes k es' t')
       (up : AllAlike ((NoteUp family laws) ps) es es')
-      (on_to : Middle ps t t') (clear : ClearState (strand_at g i).area g.strands t) (grown : length (store_of a).memory ≤ length (store_of t).memory)
+      (on_to : Middle ps t t') (grown : length (store_of a).memory ≤ length (store_of t).memory)
       (plain : FirstPlain es' ⊎ ((how : End) → last_event es' ≡ Some (ended how) → StaysEnd how)) where
     mt : Match State Held Note Note (nn (wd i)) (pr (wd i)) (Both (wd i) (ft i li) (store_laws (wd i)) (L i) (W i) G (law i li) (Known i) (wl i li) ((halt_law family laws) i li))
         (SameNote m st which (strand_at g i).area) (dear_of m)
@@ -325,7 +324,7 @@ module _ (family : Family) (laws : FamilyLaws family) where
     ended_is x how how2 e f = let z : ended how ≡ ended how2 = sym e ∙ f in cc
 
     behind : Ending es t → BehindNow
-    behind (no_end none) = I.goes_on none (going_on t t' mt.to ps li are on_to rel_to known_to clear ins_to)
+    behind (no_end none) = I.goes_on none (going_on t t' mt.to ps li are on_to rel_to known_to ins_to)
     behind (an_end es1 x how ee none ex at) =
         let two = last_two i es1 x mt.events (subst (λ z. AllAlike ((Q family laws) i) z mt.events) ee up_alike) in
         let q = two.both in

@@ -29,7 +29,7 @@ use Rattle.wa_types.specs.Syntax.{Module}
 use Rattle.wa_types.specs.declared.values.Value.{Value}
 use Rattle.strand_laws.proofs.Apart.{Gap}
 use Rattle.strand_laws.proofs.Between.{AreGaps, InsideAll, memory_grows, middle_chain}
-use Rattle.strand_laws.proofs.Clear.{CalmAll, ClearState, all_off, calm_at, calm_over, clear_on}
+use Rattle.strand_laws.proofs.Clear.{CalmAll, all_off, calm_at, calm_over, plan_guards}
 use Rattle.strand_laws.proofs.InStep as I
 use Rattle.strand_laws.proofs.Middle.{Middle, moves_same, stops_same}
 use Rattle.strand_laws.proofs.MoveKinds.{Kind, PlainTurn, Shape, k_pauses, k_plain, k_traps, kind_of, FirstPlain}
@@ -184,29 +184,29 @@ module _ (family : Family) (laws : FamilyLaws family) where
   pub stops_now : (i spare : ℕ) (a : Strung) (b : Held) → (Go family laws) i spare a b → (Calm family laws) i a → A.next i a ≡ stops → (q : ℕ)
       → I.RestsS A B (Go family laws) (Hang family laws) (Near family laws) (Sm family laws) (Kept family laws) (Q family laws) (Calm family laws) (Ok family laws) (dear family laws) (A.store a)
       (run (B.next i) q b)
-  stops_now i spare _ _ (going_on a a' b ps li are mid rel kn cl ins) calm e q = by_next a (next_of i a) mid calm cl e
+  stops_now i spare _ _ (going_on a a' b ps li are mid rel kn ins) calm e q = by_next a (next_of i a) mid calm e
     where
-      by_next : (a : State) → NextOf i a → Middle ps a a' → CalmAll g.strands a → ClearState (strand_at g i).area g.strands a → A.next i (on a) ≡ stops
+      by_next : (a : State) → NextOf i a → Middle ps a a' → CalmAll g.strands a → A.next i (on a) ≡ stops
           → I.RestsS A B (Go family laws) (Hang family laws) (Near family laws) (Sm family laws) (Kept family laws) (Q family laws) (Calm family laws) (Ok family laws) (dear family laws)
           (store_of a) (run (B.next i) q b)
-      by_next a (n_simple eq pl) mid calm cl e =
+      by_next a (n_simple eq pl) mid calm e =
           let e1 = unlift_stops (nb (wd i) a) (sym eq ∙ e) in
-          let e2 = stops_same ps (Base m) (plan_of g (strand_at g i)) a a' mid (all_off (strand_at g i).area g.strands ps a are calm cl) e1 in
+          let e2 = stops_same ps (Base m) (plan_of g (strand_at g i)) a a' mid (all_off (plan_of g (strand_at g i)) g.strands ps a are calm (plan_guards g (strand_at g i))) e1 in
           let w = (simulates (wd i) (ft i li) (store_laws (wd i)) (L i) (W i) G (law i li) (Known i) (wl i li) ((halt_law family laws) i li)).stop q spare a' b
           ((raise family laws) i li q spare a' b rel ((allowed_stop family laws) i q a' e2 (calm_over (strand_at g i).area ps a a' mid (calm_at g.strands i a li calm))), kn) (ap (sh (wd i)) e2) q
           (omega arith) in
           (w.0, (see_up family laws) i li ps (store_of a) (store_of a') (store_held (run (B.next i) q b).last) are (middle_chain ps a a' mid) w.1.0)
-      by_next _ (n_pauses {e = en} {c = c} {l = l} k imp args d x os ticks is eo ef et) mid calm cl e =
+      by_next _ (n_pauses {e = en} {c = c} {l = l} k imp args d x os ticks is eo ef et) mid calm e =
           let z : goes k _ _ ≡ stops = sym (pause_next i k imp args en c d l x os ticks is eo ef et) ∙ e in
           cc
 
   slow_at : (i spare k : ℕ) (li : i < count) (a a' t : State) (b : Held) (ps : List Gap) (es : List Note) → AreGaps g.strands ps → Middle ps a a' → (Rel family laws) i li 0 spare a' b → Known i b
-      → ClearState (strand_at g i).area g.strands a → CalmAll g.strands a
+      → CalmAll g.strands a
       → nb (wd i) a ≡ goes k es t → (q : ℕ) → q ≤ k
       → I.RestsS A B (Go family laws) (Hang family laws) (Near family laws) (Sm family laws) (Kept family laws) (Q family laws) (Calm family laws) (Ok family laws) (dear family laws) (store_of a)
       (run (B.next i) q b)
-  slow_at i spare k li a a' t b ps es are mid rel kn cl calm e q le =
-      let ms = moves_same ps (Base m) (plan_of g (strand_at g i)) a a' t k es mid (all_off (strand_at g i).area g.strands ps a are calm cl) e in
+  slow_at i spare k li a a' t b ps es are mid rel kn calm e q le =
+      let ms = moves_same ps (Base m) (plan_of g (strand_at g i)) a a' t k es mid (all_off (plan_of g (strand_at g i)) g.strands ps a are calm (plan_guards g (strand_at g i))) e in
       let sa = shown_any i k ms.events ms.to in
       ⊎_elim
       (λ pos.
@@ -228,32 +228,32 @@ module _ (family : Family) (laws : FamilyLaws family) where
   pub slow_now : (i spare k : ℕ) (es : List Note) (a t : Strung) (b : Held) → (Go family laws) i spare a b → (Calm family laws) i a → A.next i a ≡ goes k es t → (q : ℕ) → q ≤ k
       → I.RestsS A B (Go family laws) (Hang family laws) (Near family laws) (Sm family laws) (Kept family laws) (Q family laws) (Calm family laws) (Ok family laws) (dear family laws) (A.store a)
       (run (B.next i) q b)
-  slow_now i spare k es _ t _ (going_on a a' b ps li are mid rel kn cl ins) calm e q le = by_next a (next_of i a) mid calm cl e
+  slow_now i spare k es _ t _ (going_on a a' b ps li are mid rel kn ins) calm e q le = by_next a (next_of i a) mid calm e
     where
       same_k : (k k2 : ℕ) (es es2 : List Note) (t t2 : Strung) → ◌≡◌ {A = Turn Strung Note} (goes k2 es2 t2) (goes k es t) → k2 ≡ k
       same_k k k2 es es2 t t2 q = cc
 
-      by_next : (a : State) → NextOf i a → Middle ps a a' → CalmAll g.strands a → ClearState (strand_at g i).area g.strands a → A.next i (on a) ≡ goes k es t
+      by_next : (a : State) → NextOf i a → Middle ps a a' → CalmAll g.strands a → A.next i (on a) ≡ goes k es t
           → I.RestsS A B (Go family laws) (Hang family laws) (Near family laws) (Sm family laws) (Kept family laws) (Q family laws) (Calm family laws) (Ok family laws) (dear family laws)
           (store_of a) (run (B.next i) q b)
-      by_next a (n_simple eq pl) mid calm cl e =
+      by_next a (n_simple eq pl) mid calm e =
           let u = unlift (nb (wd i) a) k es t (sym eq ∙ e) in
-          slow_at i spare k li a a' u.0 b ps es are mid rel kn cl calm u.1 q le
-      by_next _ (n_pauses {e = en} {c = c} {l = l} k2 imp args d x os ticks is eo ef et) mid calm cl e =
+          slow_at i spare k li a a' u.0 b ps es are mid rel kn calm u.1 q le
+      by_next _ (n_pauses {e = en} {c = c} {l = l} k2 imp args d x os ticks is eo ef et) mid calm e =
           let z : k2 ≡ k = same_k k k2 es _ t _ (sym (pause_next i k2 imp args en c d l x os ticks is eo ef et) ∙ e) in
-          slow_at i spare k2 li (runs (an_entry en) c l) a' _ b ps _ are mid rel kn cl calm (block_next i k2 imp args en c d l x os ticks is eo ef et) q (omega arith)
+          slow_at i spare k2 li (runs (an_entry en) c l) a' _ b ps _ are mid rel kn calm (block_next i k2 imp args en c d l x os ticks is eo ef et) q (omega arith)
 
   -- a move that is as the blocking machine has it
   pub plain_move : (i spare k : ℕ) (li : i < count) (a a' t : State) (b : Held) (ps : List Gap) (es : List Note) → AreGaps g.strands ps → Middle ps a a' → (Rel family laws) i li 0 spare a' b
-      → Known i b → ClearState (strand_at g i).area g.strands a
+      → Known i b
       → InsideAll g.strands (length (store_of a).memory) → CalmAll g.strands a → nb (wd i) a ≡ goes k es t → FirstPlain es → (Ending family laws) es t
       → I.Every A B (Go family laws) (Hang family laws) (Near family laws) (Sm family laws) (Kept family laws) (Q family laws) (Calm family laws) (Ok family laws) (dear family laws)
       (Rattle.strand_laws.specs.Woven.told_by i es) → (MoveNow family laws) i spare k es (on a) (on t) b
-  plain_move i spare k li a a' t b ps es are mid rel kn cl ins calm e first en oks =
-      let ms = moves_same ps (Base m) (plan_of g (strand_at g i)) a a' t k es mid (all_off (strand_at g i).area g.strands ps a are calm cl) e in
+  plain_move i spare k li a a' t b ps es are mid rel kn ins calm e first en oks =
+      let ms = moves_same ps (Base m) (plan_of g (strand_at g i)) a a' t k es mid (all_off (plan_of g (strand_at g i)) g.strands ps a are calm (plan_guards g (strand_at g i))) e in
       let up = (notes_up family laws) ps es ms.events ms.notes in
       (simple_move family laws) i li spare k a a' t ms.to b ps es ms.events are mid rel kn ins
       ((allowed_once family laws) i (suc k) k a' ms.to ms.events ms.goes_too (calm_over (strand_at g i).area ps a a' mid (calm_at g.strands i a li calm)) (omega arith)
       (λ more. (numbered_up family laws) ps i es ms.events up oks))
       (ap (sh (wd i)) ms.goes_too ∙ shown_plain i k ms.events ms.to (first_up ps es ms.events up first)) up ms.on
-      (clear_on g.strands (Base m) (plan_of g (strand_at g i)) a t k es cl e) (memory_grows (Base m) (plan_of g (strand_at g i)) a t k es e) (inl (first_up ps es ms.events up first)) en
+      (memory_grows (Base m) (plan_of g (strand_at g i)) a t k es e) (inl (first_up ps es ms.events up first)) en

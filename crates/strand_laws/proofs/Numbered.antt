@@ -91,7 +91,7 @@ fault_listed : (results : List ValType) (size : ℕ) (plan : Plan) (in_start : B
     → plan.listed ≡ Some listed → a.ticks ≡ suc ticks → fault_of results size plan in_start import a ≡ None
     → slice_get listed import ≡ Some true
 fault_listed results size plan in_start import a listed ticks l t e =
-    let last = or_else_last (bad_poke size plan.area a.pokes) _ (or_else_last _ _ e) in
+    let last = or_else_last (bad_poke size (plan.area ∷ plan.others) a.pokes) _ (or_else_last _ _ e) in
     let at = subst (λ (n : ℕ). bad_pause in_start (is_unlisted plan.listed import) import n ≡ None) t last in
     unlisted_no listed import (ap (λ (o : Option (List Bool)). is_unlisted o import) (sym l) ∙ pause_listed in_start (is_unlisted plan.listed import) import ticks at)
 

@@ -16,7 +16,7 @@ use Rattle.wa_model.specs.Blocking.{fault_of, go_on, halts, inside, no_store, no
 use Rattle.wa_model.specs.Blocking.{stack_at, tested, with_outcomes}
 use Rattle.wa_model.specs.Behaves.{expected_notes}
 use Rattle.wa_model.specs.Configuration.{Configuration}
-use Rattle.wa_model.specs.Expected.{pause_note, trap_note}
+use Rattle.wa_model.specs.Expected.{Expected, pause_note, trap_note}
 use Rattle.wa_model.specs.Instantiation.{Opening, fails_as, opening, opens}
 use Rattle.wa_model.specs.Machine.{Ran, Turn, after, goes, run, still, stops}
 use Rattle.wa_model.specs.Plan.{Entry, Outcome, Plan, given}
@@ -30,6 +30,7 @@ use Rattle.strand_laws.proofs.MoveKinds.{Kind, PlainTurn, Shape, ends_with, k_pa
 use Rattle.strand_laws.proofs.OneStrand.{BothGo, BothRan, both_run, front, none_left, one, threads}
 use Rattle.strand_laws.proofs.Weaving.{stays_on}
 use Rattle.strand_laws.proofs.WovenRuns.{end_woven, finished_stops, last_of, no_ends_last}
+use Rattle.strand_laws.proofs.OneArea.{blocking_same}
 use Rattle.strand_laws.specs.OneStrand.{OneStrandIsExpected, with_one}
 use Rattle.strand_laws.specs.Strands.{BlockingStrands, Space, Strand, StrandProgram, Strung, lifted, on, plan_of, space_of}
 use Rattle.strand_laws.specs.Strands.{strung, strung_asked, strung_loom, strung_next, strung_pauses, strung_starts, strung_tested, told_on, waits}
@@ -61,7 +62,7 @@ module _ (st : Settings) (g : StrandProgram) (s : Strand) where
   m = Base g.source
 
   abbrev plan : Plan
-  plan = plan_of g s
+  plan = plan_of (with_one g s) s
 
   abbrev sp : Space
   sp = space_of st g.source s
@@ -199,4 +200,6 @@ module _ (st : Settings) (g : StrandProgram) (s : Strand) where
       ∙ ap (told_by 0) (sym (begun_shown sp.room sp.fit sp.len m.start (all_left plan os) (opening m g.globals) (run (blocking m plan) n (from os).last).events))
 
 pub one_strand_expected : OneStrandIsExpected
-one_strand_expected st g s os n = whole_run st g s os n
+one_strand_expected st g s os n =
+    whole_run st g s os n
+    ∙ ap (λ (r : Ran State Note). told_by 0 (Expected g.source st.policy s.area r.events)) (blocking_same g.globals s.entries s.area g.listed g.source os n)

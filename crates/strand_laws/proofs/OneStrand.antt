@@ -7,13 +7,14 @@ use Rattle.wa_model.specs.Instantiation.{Opening, fails_as, opening, opens}
 use Rattle.wa_model.specs.Machine.{Ran, Turn, after, goes, pay, run_with, still, stops}
 use Rattle.wa_model.specs.Outside.{Event, answered, called, ended, parked, paused, returned, shown}
 use Rattle.wa_model.specs.Plan.{Entry, Outcome}
-use Rattle.wa_model.specs.Protocol.{Held, aside, busy, calling, entering, exports_of, free, held_begun, held_on, over, protocol, starting, store_held}
+use Rattle.wa_model.specs.Protocol.{Held, Protocol, aside, busy, calling, entering, exports_of, free, held_begun, held_on, over, protocol, starting, store_held}
 use Rattle.wa_model.specs.Store.{Store}
 use Rattle.strand_laws.proofs.Endings.{EndsSo, OverAt, TurnEnds, turn_ends}
 use Rattle.strand_laws.proofs.Weaving.{told_both}
 use Rattle.strand_laws.proofs.WovenRuns.{finished_stops, stands_none}
-use Rattle.strand_laws.specs.OneStrand.{OneStrandRuns, RunsAsItsPlan, StandsThere, with_one}
-use Rattle.strand_laws.specs.Strands.{Strand, StrandProgram, held_loom, held_starts, plan_of}
+use Rattle.strand_laws.proofs.OneArea.{protocol_same}
+use Rattle.strand_laws.specs.OneStrand.{OneStrandRuns, StandsThere, with_one}
+use Rattle.strand_laws.specs.Strands.{ProtocolStrands, Strand, StrandProgram, held_loom, held_starts, plan_of}
 use Rattle.strand_laws.specs.Woven.{Loom, Thread, Told, Woven, ends_strand, finished, last_event, moved, standing_now, told_by, weave, weave_on, woven, woven_by}
 
 -- where a run stands that has begun, by its notes
@@ -82,7 +83,7 @@ module _ (g : StrandProgram) (s : Strand) where
   loom = held_loom (with_one g s)
 
   abbrev alone : Held → Turn Held Note
-  alone = protocol g.source (exports_of g.source) (plan_of g s)
+  alone = protocol g.source (exports_of g.source) (plan_of (with_one g s) s)
 
   -- the strand beside its plan's run
   data Beside : Woven Held → Held → Type 0 where
@@ -128,7 +129,7 @@ module _ (g : StrandProgram) (s : Strand) where
 
   moves_beside : (w : Woven Held) (h : Held) → Beside w h → BothGo loom alone Beside (weave loom w) (alone h)
   moves_beside _ _ (has_ended d t) = subst (λ o. BothGo loom alone Beside o stops) (sym (finished_stops loom (threads d None))) tt
-  moves_beside _ _ (goes_on d h) = by_turn (alone h) (turn_ends g.source (exports_of g.source) (plan_of g s) h)
+  moves_beside _ _ (goes_on d h) = by_turn (alone h) (turn_ends g.source (exports_of g.source) (plan_of (with_one g s) s) h)
     where
       by_turn : (o : Turn Held Note) → TurnEnds o → BothGo loom alone Beside (moved loom (held_starts h) 0 d (threads d (Some h)) o) o
       by_turn stops e = tt
@@ -139,21 +140,27 @@ module _ (g : StrandProgram) (s : Strand) where
   stands_there _ _ (has_ended d t) = subst (StandsThere (over t)) (sym (stands_none loom (threads d None))) (t, refl)
 
   abbrev from : List Outcome → Ran Held Note
-  from os = held_begun g.source.start (all_left (plan_of g s) os) (opening g.source g.globals)
+  from os = held_begun g.source.start (all_left (plan_of (with_one g s) s) os) (opening g.source g.globals)
 
   abbrev at_first : List Outcome → Ran (Woven Held) Told
   at_first os = woven loom true 0 0 (from os).events (from os).last (threads 0 (Some (from os).last))
 
   begins_so : (os : List Outcome) → HeldRan (at_first os) (from os)
-  begins_so os = moved_one true 0 (Some (from os).last) (from os).events (from os).last (begun_ends g.source.start (all_left (plan_of g s) os) (opening g.source g.globals))
+  begins_so os = moved_one true 0 (Some (from os).last) (from os).events (from os).last (begun_ends g.source.start (all_left (plan_of (with_one g s) s) os) (opening g.source g.globals))
 
-  whole_run : (os : List Outcome) (n : ℕ) → RunsAsItsPlan g s os n
+  -- it makes the notes of this run, and stands where that does
+  abbrev RunsAs : (os : List Outcome) (n : ℕ) → Ran Held Note → Type 0
+  RunsAs os n r =
+      ((ProtocolStrands (with_one g s) (os ∷ []) n).events ≡ told_by 0 r.events) × StandsThere r.last (standing_now (ProtocolStrands (with_one g s) (os ∷ []) n).last)
+
+  whole_run : (os : List Outcome) (n : ℕ) → RunsAs os n (Protocol g.source (plan_of (with_one g s) s) os n)
   whole_run os n =
       let more : Ran (Woven Held) Told = run_with (weave loom) n n (at_first os).last in
       let rest : Ran Held Note = run_with alone n n (from os).last in
       let ran : HeldRan (after (at_first os).events more) (after (from os).events rest) =
       front loom alone Beside (at_first os) more (from os) rest (begins_so os) (both_run loom alone Beside moves_beside n n (at_first os).last (from os).last (begins_so os).1) in
-      record { notes = ran.0; stands = stands_there more.last rest.last ran.1 }
+      (ran.0, stands_there more.last rest.last ran.1)
 
 pub one_strand_runs : OneStrandRuns
-one_strand_runs g s os n = whole_run g s os n
+one_strand_runs g s os n =
+    let r = subst (RunsAs g s os n) (protocol_same g.globals s.entries s.area g.listed g.source os n) (whole_run g s os n) in record { notes = r.0; stands = r.1 }

@@ -1,4 +1,5 @@
 -- A strand's move that pauses, or whose frames don't fit; with it, all that strands owe, and the joint simulation.
+use Rattle.run_theory.proofs.TestedPokes.{passes_area, pokes_pass}
 use Rattle.headline.specs.FlatLaw.{FlatAsks, FlatLaw, FlatNext}
 use Rattle.world_model.specs.World.{ends_turn}
 use Rattle.wa_types.specs.declared.values.Trap.TheVariants.{Import, Unreachable}
@@ -7,7 +8,7 @@ use Rattle.std.proofs.lemmas.List.Elements.{All-cons, All-nil}
 use Rattle.headline.specs.Told.{answer_notes, goes_on_told}
 use Rattle.headline.specs.World.{World, WorldFits}
 use Rattle.headline.specs.WrittenRuns.{WrittenLaw}
-use Rattle.headline.proofs.Asks.{Called, no_bad_poke, to_call}
+use Rattle.headline.proofs.Asks.{Called, to_call}
 use Rattle.headline.proofs.Reductions.{Allowed, LeftFits, Link, TopOf, nb, nn, r_begins, r_between, r_halts, r_runs, sh}
 use Rattle.headline.proofs.StoresTogether.{store_laws}
 use Rattle.headline.proofs.ToldMoves.{Here, dear_of, nothing, so_far}
@@ -21,13 +22,12 @@ use Rattle.wa_model.specs.Configuration.{Activation, Configuration, stack_of, su
 use Rattle.wa_model.specs.Expected.{pause_note, trap_note}
 use Rattle.wa_model.specs.Machine.{Ran, Turn, goes, run, stops}
 use Rattle.wa_model.specs.Outside.{Answer, Event, answered, ended}
-use Rattle.wa_model.specs.Plan.{Entry, Outcome, given}
+use Rattle.wa_model.specs.Plan.{Entry, Outcome, Plan, given}
 use Rattle.wa_model.specs.Protocol.{Held, busy, exports_of, is_running, store_held}
 use Rattle.wa_model.specs.Step.{Next, asks, step, steps}
 use Rattle.wa_model.specs.Store.{Store}
 use Rattle.wa_model.specs.Untouched.{IsCalm}
 use Rattle.wa_model.specs.declared.answers.Said.TheVariants as SV
-use Rattle.wa_model.specs.declared.answers.Area.{Area}
 use Rattle.wa_model.specs.declared.events.End.{End}
 use Rattle.wa_model.specs.declared.events.End.TheVariants.{Trapped, UnwindTrap}
 use Rattle.wa_types.specs.Base.{Base}
@@ -38,7 +38,7 @@ use Rattle.wa_types.specs.Syntax.{Module}
 use Rattle.wa_types.specs.declared.values.Value.{Value}
 use Rattle.strand_laws.proofs.Apart.{ApartAt, Gap, NextApart, reduces_apart}
 use Rattle.strand_laws.proofs.Between.{AreGaps, Chain, InsideAll, chain_size, memory_grows, middle_chain}
-use Rattle.strand_laws.proofs.Clear.{CalmAll, ClearOut, ClearState, all_off, calm_at, calm_over, chain_halts, clear_pokes, clear_tail}
+use Rattle.strand_laws.proofs.Clear.{CalmAll, all_off, calm_at, calm_over, chain_halts, clear_pokes, plan_guards}
 use Rattle.strand_laws.proofs.InStep as I
 use Rattle.strand_laws.proofs.Switch.{wake_all}
 use Rattle.strand_laws.proofs.Middle.{AllOff, Middle, StateApart, all_apart, s_begins, s_between, s_halts, s_runs}
@@ -151,14 +151,14 @@ module _ (family : Family) (laws : FamilyLaws family) where
   runs_apart p task c l _ _ (s_begins q) e = cc
   runs_apart p task c l _ _ (s_halts q) e = cc
 
-  asks_same : (own : Area) (ps : List Gap) (task : Task) (l : Left) (k imp : ℕ) (args : List Value) (c d : Configuration) (a' : State) → Middle ps (runs task c l) a' → AllOff own ps (runs task c l)
+  asks_same : (plan : Plan) (ps : List Gap) (task : Task) (l : Left) (k imp : ℕ) (args : List Value) (c d : Configuration) (a' : State) → Middle ps (runs task c l) a' → AllOff plan ps (runs task c l)
       → step (Base m) c ≡ asks k imp args d
       → AsksSame ps task l k imp args d a'
-  asks_same own [] task l k imp args c d a' h off_ e = record { c' = c; d' = d; is_runs = sym h; asks_too = e; here = refl; under = refl; chain = refl }
-  asks_same own (p ∷ ps) task l k imp args c d a' h off_ e =
+  asks_same plan [] task l k imp args c d a' h off_ e = record { c' = c; d' = d; is_runs = sym h; asks_too = e; here = refl; under = refl; chain = refl }
+  asks_same plan (p ∷ ps) task l k imp args c d a' h off_ e =
       let o = runs_apart p task c l (runs task c l) h.0 h.1 refl in
       let n = asks_apart p k imp args d (step (Base m) c) (step (Base m) o.0) (reduces_apart (Base m) p c o.0 o.2 off_.0.0) e in
-      let r = asks_same own ps task l k imp args o.0 n.0 a' (subst (λ z. Middle ps z a') o.1 h.2) (subst (AllOff own ps) o.1 (all_apart own p ps (runs task c l) h.0 h.1 off_.1)) n.1 in
+      let r = asks_same plan ps task l k imp args o.0 n.0 a' (subst (λ z. Middle ps z a') o.1 h.2) (subst (AllOff plan ps) o.1 (all_apart plan p ps (runs task c l) h.0 h.1 off_.1)) n.1 in
       let f = n.2 in
       record { c' = r.c'; d' = r.d'; is_runs = r.is_runs; asks_too = r.asks_too; here = r.here ∙ f.here; under = r.under ∙ f.under; chain = (n.0.store, f.store, r.chain) }
 
@@ -198,7 +198,7 @@ module _ (family : Family) (laws : FamilyLaws family) where
       (is : step (Base m) c ≡ asks k imp args d) (is' : step (Base m) c' ≡ asks k imp args d') (eo : l.outcomes ≡ given a ∷ os)
       (ef : fault_of (func_type_at (Base m) imp).results (length d.store.memory) (plan_of g (strand_at g i)) false imp a ≡ None) (et : pause_of a.ticks ≡ Some ticks)
       (mid : Middle ps (runs (an_entry e) c l) (runs (an_entry e) c' l)) (eh : d'.here ≡ d.here) (eu : d'.under ≡ d.under) (ch_d : Chain ps d.store d'.store)
-      (cl : ClearOut (strand_at g i).area g.strands l.outcomes) (ins : InsideAll g.strands (length c.store.memory)) (calm' : IsCalm (strand_at g i).area (runs (an_entry e) c' l))
+      (ins : InsideAll g.strands (length c.store.memory)) (calm' : IsCalm (strand_at g i).area (runs (an_entry e) c' l))
       (oks : PauseNumbered m st which (stack_of (Base m) d) (Some ticks)) where
     abbrev lo : Left
     lo = with_outcomes l os
@@ -224,13 +224,13 @@ module _ (family : Family) (laws : FamilyLaws family) where
     ch_c : Chain ps c.store c'.store
     ch_c = middle_chain ps (runs (an_entry e) c l) (runs (an_entry e) c' l) mid
 
-    bad : bad_poke (length d.store.memory) (strand_at g i).area a.pokes ≡ None
-    bad = no_bad_poke (func_type_at (Base m) imp).results (length d.store.memory) (plan_of g (strand_at g i)) false imp a ef
+    bad : bad_poke (length d.store.memory) ((strand_at g i).area ∷ []) a.pokes ≡ None
+    bad = passes_area (func_type_at (Base m) imp).results (length d.store.memory) (plan_of g (strand_at g i)) false imp a ef
 
     grown : length c.store.memory ≤ length d.store.memory
     grown =
         let q = memory_grows (Base m) (plan_of g (strand_at g i)) (runs (an_entry e) c l) _ k _ ((block_next family laws) i k imp args e c d l a os ticks is eo ef et) in
-        let z = (poked_size family laws) d.store (strand_at g i).area a.pokes bad in
+        let z = (poked_size family laws) d.store ((strand_at g i).area ∷ []) a.pokes bad in
         let at : length (store_of (goes_on_told a.said e d (poked d.store a.pokes) lo)).memory ≡ length (poked d.store a.pokes).memory = told_size a.said e d (poked d.store a.pokes) lo in
         omega arith
 
@@ -326,8 +326,8 @@ module _ (family : Family) (laws : FamilyLaws family) where
                 ((near_behind family laws) i li top ps d.store d'.store r.s3 are ch_d r.like ((law i li).waits_good top imp d' (cd).flat_at (cd).waits)
                 (laws.known_store i _ r.s3 _ _ _ _ r.known) ins_d)
                 (suspended top imp e a lo d d' r.s3 r.s3 li r.suspends eh eu r.known (omega arith)
-                (clear_tail (strand_at g i).area g.strands (given a) os (subst (ClearOut (strand_at g i).area g.strands) eo cl))
-                (clear_pokes (strand_at g i).area g.strands (length d.store.memory) a os bad (subst (ClearOut (strand_at g i).area g.strands) eo cl)));
+                (clear_pokes (plan_of g (strand_at g i)) g.strands (length d.store.memory) a (plan_guards g (strand_at g i))
+                (pokes_pass (func_type_at (Base m) imp).results (length d.store.memory) (plan_of g (strand_at g i)) false imp a ef)));
           }
 
     -- they don't: the unwind's trap ends the program
@@ -350,7 +350,7 @@ module _ (family : Family) (laws : FamilyLaws family) where
         (call_up, (record { event = ap (λ z. (trap_note (Fit m st.policy z len) len d.store).event) same_stack; stack = refl; pause = refl; chain = ch_d }, tt)) in
         (simple_move family laws) i li spare k (runs (an_entry e) c l) (runs (an_entry e) c' l) (halts d.store) (halts d'.store) b ps (x1 ∷ tr ∷ [])
         (x1' ∷ tr' ∷ []) are mid rel kn ins allowed shown up
-        (chain_halts ps d.store d'.store ch_d) tt grown (inr (λ how q. trap_stays (Fit m st.policy S' len) len d'.store how q)) (an_end (x1 ∷ []) tr _ refl (refl, tt) refl refl)
+        (chain_halts ps d.store d'.store ch_d) grown (inr (λ how q. trap_stays (Fit m st.policy S' len) len d'.store how q)) (an_end (x1 ∷ []) tr _ refl (refl, tt) refl refl)
 
   -- ---- every move
 
@@ -366,15 +366,15 @@ module _ (family : Family) (laws : FamilyLaws family) where
   moves_now : (i spare k : ℕ) (es : List Note) (a t : Strung) (b : Held) → (Go family laws) i spare a b → (Calm family laws) i a → A.next i a ≡ goes k es t
       → I.Every A B (Go family laws) (Hang family laws) (Near family laws) (Sm family laws) (Kept family laws) (Q family laws) (Calm family laws) (Ok family laws) (dear family laws) (told_by i es)
       → (MoveNow family laws) i spare k es a t b
-  moves_now i spare k es _ t _ (going_on a a' b ps li are mid rel kn cl ins) calm e oks = by_next a ((next_of family laws) i a) mid calm cl ins e
+  moves_now i spare k es _ t _ (going_on a a' b ps li are mid rel kn ins) calm e oks = by_next a ((next_of family laws) i a) mid calm ins e
     where
-      by_next : (a : State) → (NextOf family laws) i a → Middle ps a a' → CalmAll g.strands a → ClearState (strand_at g i).area g.strands a → InsideAll g.strands (length (store_of a).memory)
+      by_next : (a : State) → (NextOf family laws) i a → Middle ps a a' → CalmAll g.strands a → InsideAll g.strands (length (store_of a).memory)
           → A.next i (on a) ≡ goes k es t → (MoveNow family laws) i spare k es (on a) t b
-      by_next a (n_simple eq pl) mid calm cl ins e =
+      by_next a (n_simple eq pl) mid calm ins e =
           let u = (unlift family laws) (nb (wd i) a) k es t (sym eq ∙ e) in
           let p2 = subst (PlainS family laws) u.1 pl in
-          subst (λ z. (MoveNow family laws) i spare k es (on a) z b) (sym u.2) ((plain_move family laws) i spare k li a a' u.0 b ps es are mid rel kn cl ins calm u.1 p2.0 p2.1 oks)
-      by_next _ (n_pauses {e = en} {c = c} {l = l} k2 imp args d x os ticks is eo ef et) mid calm cl ins e =
+          subst (λ z. (MoveNow family laws) i spare k es (on a) z b) (sym u.2) ((plain_move family laws) i spare k li a a' u.0 b ps es are mid rel kn ins calm u.1 p2.0 p2.1 oks)
+      by_next _ (n_pauses {e = en} {c = c} {l = l} k2 imp args d x os ticks is eo ef et) mid calm ins e =
           by_room (nat_lt (strand_at g i).area.len (Room m st.policy (stack_of (Base m) d))) refl
         where
           S : List Suspended
@@ -396,11 +396,11 @@ module _ (family : Family) (laws : FamilyLaws family) where
               ok1 : PauseNumbered m st which (stack_of (Base m) d) (Some ticks)
               ok1 = (subst (EveryTurn i) (sym z) oks).0
 
-              off_ : AllOff (strand_at g i).area ps (runs (an_entry en) c l)
-              off_ = all_off (strand_at g i).area g.strands ps (runs (an_entry en) c l) are calm cl
+              off_ : AllOff (plan_of g (strand_at g i)) ps (runs (an_entry en) c l)
+              off_ = all_off (plan_of g (strand_at g i)) g.strands ps (runs (an_entry en) c l) are calm (plan_guards g (strand_at g i))
 
               sm : AsksSame ps (an_entry en) l k2 imp args d a'
-              sm = asks_same (strand_at g i).area ps (an_entry en) l k2 imp args c d a' mid off_ is
+              sm = asks_same (plan_of g (strand_at g i)) ps (an_entry en) l k2 imp args c d a' mid off_ is
 
               mid2 : Middle ps (runs (an_entry en) c l) (runs (an_entry en) sm.c' l)
               mid2 = subst (λ w. Middle ps (runs (an_entry en) c l) w) sm.is_runs mid
@@ -417,19 +417,19 @@ module _ (family : Family) (laws : FamilyLaws family) where
                   else pause_note ticks (Room m st.policy (stack_of (Base m) d)) d.store (stack_of (Base m) d) ∷ []))
                   (if q2 then on (halts d.store) else waits (an_entry en) d x (with_outcomes l os)))
               by_fit true eq2 =
-                  overrun_at i li spare k2 imp args en c d sm.c' sm.d' l x os ticks ps are is sm.asks_too eo ef et mid2 sm.here sm.under sm.chain cl ins calm2 ok1 b rel2 kn eq2
+                  overrun_at i li spare k2 imp args en c d sm.c' sm.d' l x os ticks ps are is sm.asks_too eo ef et mid2 sm.here sm.under sm.chain ins calm2 ok1 b rel2 kn eq2
               by_fit false eq2 =
                   let rr = runs_rel i li spare (an_entry en) sm.c' l (runs (an_entry en) sm.c' l) b rel2 refl in
                   subst (λ w. (MoveNow family laws) i spare k2
                   (call_note imp args d.store (stack_of (Base m) d) (Some ticks) ∷ pause_note ticks (Room m st.policy (stack_of (Base m) d)) d.store (stack_of (Base m) d) ∷ [])
                   (on (runs (an_entry en) c l)) (waits (an_entry en) d x (with_outcomes l os)) w) (sym rr.b_is)
-                  (pause_at i li spare k2 imp args en c d sm.c' sm.d' l x os ticks ps are is sm.asks_too eo ef et mid2 sm.here sm.under sm.chain cl ins calm2 ok1 rr.bc rr.top rr.x rr.within
+                  (pause_at i li spare k2 imp args en c d sm.c' sm.d' l x os ticks ps are is sm.asks_too eo ef et mid2 sm.here sm.under sm.chain ins calm2 ok1 rr.bc rr.top rr.x rr.within
                   rr.is_top rr.lk rr.lf
                   (subst (λ w. (Rel family laws) i li 0 spare (runs (an_entry en) sm.c' l) w) rr.b_is rel2) (subst (Known i) rr.b_is kn)
                   (ltb-false (strand_at g i).area.len (Room m st.policy (stack_of (Base m) d)) eq2))
 
   sees_now : (i spare : ℕ) (a : Strung) (b : Held) → (Go family laws) i spare a b → (Sm family laws) (A.store a) (B.store b)
-  sees_now i spare _ _ (going_on a a' b ps li are mid rel kn cl ins) =
+  sees_now i spare _ _ (going_on a a' b ps li are mid rel kn ins) =
       (see_up family laws) i li ps (store_of a) (store_of a') (store_held b) are (middle_chain ps a a' mid) ((sees_rel family laws) i li 0 spare a' b rel)
 
   -- ALL THAT STRANDS OWE

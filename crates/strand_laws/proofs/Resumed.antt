@@ -1,10 +1,10 @@
 -- A strand that is suspended comes back over the store of the moment, whatever ran there since, and goes on.
+use Rattle.run_theory.proofs.TestedPokes.{passes_area}
 use Rattle.headline.specs.World.{World, WorldFits, base, setting}
 use Rattle.headline.specs.FlatLaw.{AllLocalsFit, FlatLaw}
 use Rattle.headline.specs.Given.{LetsPause}
 use Rattle.headline.specs.StoreLaws.{StoreLaws}
 use Rattle.headline.specs.WrittenRuns.{WrittenLaw}
-use Rattle.headline.proofs.Asks.{no_bad_poke}
 use Rattle.headline.proofs.FlatStretches.{Sil, along, gl, pr, sides, xp}
 use Rattle.headline.proofs.Halves.{Back, Hangs, comes_back}
 use Rattle.headline.proofs.Reductions.{Allowed, LeftFits, Link, R, quiet_there, r_runs, same_note}
@@ -150,8 +150,8 @@ module _ (w : World) (ft : WorldFits w) (sl : StoreLaws w) (L : (top spare : ℕ
       passes_now : fault_of (func_type_at (base w) i).results (length t.memory) w.plan false i a ≡ None
       passes_now = subst (λ z. fault_of (func_type_at (base w) i).results z w.plan false i a ≡ None) (sym size) sp.passes
 
-      no_bad : bad_poke (length t.memory) w.plan.area a.pokes ≡ None
-      no_bad = no_bad_poke (func_type_at (base w) i).results (length t.memory) w.plan false i a passes_now
+      no_bad : bad_poke (length t.memory) (w.plan.area ∷ []) a.pokes ≡ None
+      no_bad = passes_area (func_type_at (base w) i).results (length t.memory) w.plan false i a passes_now
 
       back : Back w ft sl L W G law top i e a lo dt there t s'
       unfolding there

@@ -1,5 +1,5 @@
 -- The worlds of two strands have their lines.
-use Rattle.std.proofs.Common.{arith, ◌≡◌, ℕ, List, [], ◌∷◌, ◌++◌, length, All, Some, false, refl, ap, sym, ◌∙◌, ◌+◌}
+use Rattle.std.proofs.Common.{arith, ◌≡◌, ℕ, List, [], ◌∷◌, ◌++◌, length, Some, refl, ap, sym, ◌∙◌, ◌+◌}
 use Rattle.std.specs.Prelude.{nat_eq}
 use Rattle.std.proofs.lemmas.List.Elements.{All-nil, All-cons}
 use Rattle.wa_types.specs.declared.values.Value.TheVariants as V
@@ -8,14 +8,12 @@ use Rattle.wa_types.specs.Base.{Base}
 use Rattle.wa_types.specs.Pruned.{pruned}
 use Rattle.wa_types.specs.Pausing.{calls_of, save_all}
 use Rattle.wa_types.specs.Points.{points}
-use Rattle.wa_model.specs.declared.answers.Area.{Area}
-use Rattle.wa_model.specs.Blocking.{overlap}
-use Rattle.wa_model.specs.Outside.{Event, Poke, returned}
+use Rattle.wa_model.specs.Outside.{Event, returned}
 use Rattle.wa_model.specs.Plan.{Outcome, given}
 use Rattle.world_model.specs.World.{Actor, IsOver, Program, an_event, at_start, no_event, turn_lines}
 use Rattle.image_laws.specs.Example.{saving}
-use Rattle.strand_laws.specs.StrandWorld.{Staged, StrandOriginal, StrandsInWorld, answers_of, last_strand, looks_if, areas_but, PokesApart, notes_of, strand_actors, strand_programs, whole}
-use Rattle.strand_laws.specs.Strands.{BlockingStrands, PokesOff, Strand, StrandEvent, StrandProgram, plan_of, strand_at}
+use Rattle.strand_laws.specs.StrandWorld.{Staged, StrandOriginal, StrandsInWorld, answers_of, last_strand, looks_if, notes_of, strand_actors, strand_programs, whole}
+use Rattle.strand_laws.specs.Strands.{BlockingStrands, Strand, StrandEvent, StrandProgram, plan_of, strand_at}
 use Rattle.strand_laws.specs.WorldExample.{DividingTellsItsLines, NarrowTellsItsLines, StrandReadings, SummingTellsItsLines, told_by_two, told_of_summing, alone_in_world, answers_with}
 use Rattle.strand_laws.specs.WorldExample.{dividing_strands, gives_number, narrow_strands, summing_strands}
 use Rattle.strand_laws.specs.Woven.{Told}
@@ -51,14 +49,6 @@ EndsNow a = a.notes ≡ []
 
 both_over : (a b : Actor) → EndsNow a → EndsNow b → IsOver (a ∷ b ∷ [])
 both_over a b x y = All-cons EndsNow a (b ∷ []) x (All-cons EndsNow b [] y (All-nil EndsNow))
-
--- outcomes without pokes keep off all areas
-no_pokes : (ss : List Strand) (n t m u : ℕ) → PokesApart ss 0 (gives_number n t ∷ gives_number m u ∷ [])
-no_pokes ss n t m u = (one_off (areas_but 0 0 ss) n t, (one_off (areas_but 1 0 ss) m u, tt))
-  where
-    one_off : (areas : List Area) (k v : ℕ) → All (PokesOff areas) (gives_number k v)
-    one_off areas k v =
-        All-cons (PokesOff areas) (one_given k v) [] (All-nil (λ (p : Poke). All (λ (x : Area). overlap p.at (length p.bytes) x.at x.len ≡ false) areas)) (All-nil (PokesOff areas))
 
 -- ---- a store that all strands share
 
@@ -104,7 +94,6 @@ summing_tells = record {
       outcomes = gives_number 10 2 ∷ gives_number 100 1 ∷ [];
       told = summing_told;
       wide = refl;
-      pokes = no_pokes summing_strands.strands 10 2 100 1;
       tells = whole summing_told refl refl;
       programs_are = refl;
       actors_are = refl;
@@ -171,7 +160,6 @@ dividing_tells = record {
       outcomes = gives_number 0 1 ∷ gives_number 1000 2 ∷ [];
       told = dividing_told;
       wide = refl;
-      pokes = no_pokes dividing_strands.strands 0 1 1000 2;
       tells = whole dividing_told refl refl;
       programs_are = refl;
       actors_are = refl;
@@ -232,7 +220,6 @@ narrow_tells = record {
       outcomes = gives_number 10 2 ∷ gives_number 100 1 ∷ [];
       told = narrow_told;
       wide = refl;
-      pokes = no_pokes narrow_strands.strands 10 2 100 1;
       tells = whole narrow_told refl refl;
       programs_are = refl;
       actors_are = refl;

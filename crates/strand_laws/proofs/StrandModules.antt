@@ -40,7 +40,7 @@ use Rattle.headline.proofs.Reductions.{LeftFits}
 use Rattle.headline.proofs.WorldParts.{world_fits}
 use Rattle.headline.proofs.WrittenKnown.{InRange, known_begins, known_moves, written_law}
 use Rattle.image_laws.proofs.Restored.{over_store, waits_over}
-use Rattle.strand_laws.specs.Strands.{AreApart, StrandProgram, StrandsBehaveOn, StrandsCompared, StrandsNumbered, plan_of, strand_at, with_source}
+use Rattle.strand_laws.specs.Strands.{AreApart, StrandProgram, areas_of, StrandsBehaveOn, StrandsCompared, StrandsNumbered, plan_of, strand_at, with_source}
 use Rattle.strand_laws.proofs.Compared.{strands_behave_compared}
 use Rattle.strand_laws.proofs.KnownStores.{fits_wakes, good_over, range_wakes, store_known}
 use Rattle.strand_laws.proofs.SameGood.{same_law}
@@ -137,7 +137,7 @@ module _ (m : Module) (s : Settings) (which : List Bool) (frames : (index : ℕ)
   free_so : (i : ℕ) → i < count → (st : Store) (l : Left) → LeftFits (world_of (kk i)) l → (e : Entry) (es : List Entry) → l.entries ≡ e ∷ es → StoreKnown p st → KnownState p (free st l)
   free_so i li st l lf e es q sk =
       let at = fits_at i li in
-      let plan : Plan = record { globals = g.globals; entries = l.entries; area = (strand_at g i).area; listed = g.listed } in
+      let plan : Plan = record { globals = g.globals; entries = l.entries; area = (strand_at g i).area; others = areas_of g; listed = g.listed } in
       let there : L.Fits p plan = fits_there plan (record { globals = at.globals; entries = lf.entries; area = at.area }) in
       let typed : LeftTyped p l = All-weaker (EntryFits p) (EntryTyped p) (λ y h. entry_typed p y h) l.entries there.entries in
       let inn : LeftIn l = record { entries = (fits_in p plan there).entries; outcomes = lf.outcomes } in

@@ -273,7 +273,7 @@ stories_of (g ∷ gs) [] h = absurd h
 stories_of (g ∷ gs) (t ∷ ts) h =
     let on = h.0 in
     let r = on.begins [] in
-    (record { rest = r.0; more = []; pokes = on.pokes; story = r.1; is_rest = r.2 }, stories_of gs ts h.1)
+    (record { rest = r.0; more = []; story = r.1; is_rest = r.2 }, stories_of gs ts h.1)
 
 pub told_begin : ToldStrandsBegin
-told_begin gs detaches ds count lines tellers ds' some apart told on = told_goes_on gs detaches ds count lines tellers ds' some apart told (stories_of gs tellers on)
+told_begin gs detaches ds count lines tellers ds' some told on = told_goes_on gs detaches ds count lines tellers ds' some told (stories_of gs tellers on)

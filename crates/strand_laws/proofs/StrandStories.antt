@@ -186,7 +186,6 @@ compared_on s g oss n most le over cmp = record {
   apart = cmp.apart;
   wide = cmp.wide;
   outcomes = cmp.outcomes;
-  pokes = cmp.pokes;
   untouched = λ j lt. ⊎_elim (λ less. cmp.untouched j less) (λ ge. behind j ge) (cases_lt j n);
 }
   where
@@ -258,7 +257,6 @@ module _ (o : StrandOriginal) (w : StrandsInWorld) (oss : List (List Outcome)) (
         apart = cmp.apart;
         wide = cmp.wide;
         outcomes = cmp.outcomes;
-        pokes = cmp.pokes;
         untouched = λ j lt. cmp.untouched j (omega (arith, lt, le));
       } in
       st.rewritten.behave may.well_formed ord.which ord.tells g refl oss k lower numbered

@@ -16,12 +16,12 @@ use Rattle.strand_laws.proofs.ActorRows.{Rows, alike_back, events_beside, over_b
 use Rattle.strand_laws.proofs.Emitted.{strands_of_emitted}
 use Rattle.strand_laws.proofs.Numbered.{pauses_at_numbers}
 use Rattle.strand_laws.proofs.StrandShows.{last_same, notes_print}
-use Rattle.strand_laws.proofs.StrandsMet.{actors_have, actors_met, met_wide, pokes_met, stories_of_met}
+use Rattle.strand_laws.proofs.StrandsMet.{actors_have, actors_met, met_wide, stories_of_met}
 use Rattle.strand_laws.proofs.StrandTails.{calls_by}
 use Rattle.strand_laws.specs.StrandsMet.{HaveOutcomes, met_in, met_of}
 use Rattle.strand_laws.proofs.StrandStories.{stories_of_originals, story_held}
 use Rattle.strand_laws.specs.StrandOriginals.{BoundedWorldsAreHeld, ComparedAreOrderly, EmittedAreRewritten, SameStrandMoment, StrandWorldsOfOriginals, StrandsBounded, StrandsMayRun, StrandsOrderly, StrandsStandIn, outcomes_in}
-use Rattle.strand_laws.specs.StrandWorld.{HeldStrands, PokesApart, Staged, StartsStrands, StartsStrung, StrandLine, StrandOriginal, StrandsInWorld, joined, last_strand, looks_if, notes_of}
+use Rattle.strand_laws.specs.StrandWorld.{HeldStrands, Staged, StartsStrands, StartsStrung, StrandLine, StrandOriginal, StrandsInWorld, joined, last_strand, looks_if, notes_of}
 use Rattle.strand_laws.specs.StrandWorld.{strand_actors, strand_in, strand_line, strand_lines, strand_programs}
 use Rattle.strand_laws.specs.Strands.{Strand, StrandProgram}
 use Rattle.strand_laws.specs.Woven.{Told}
@@ -106,7 +106,6 @@ module _ (o : StrandOriginal) (w : StrandsInWorld) (st : StrandsStandIn o w) (ma
           outcomes = oss;
           told = us;
           wide = met_wide ts 0 h.outcomes ∙ wide;
-          pokes = subst (λ (ss : List Strand). PokesApart ss 0 oss) strands (pokes_met w.program.strands ts 0 h.outcomes h.pokes);
           tells = story.1;
           programs_are = refl;
           actors_are = refl;
@@ -133,7 +132,6 @@ module _ (o : StrandOriginal) (w : StrandsInWorld) (st : StrandsStandIn o w) (ma
           outcomes = oss;
           told = ts;
           wide = h.wide ∙ ap length (sym strands);
-          pokes = subst (λ (ss : List Strand). PokesApart ss 0 oss) (sym strands) h.pokes;
           tells = story.1;
           programs_are = ap (λ n. strand_programs w n 0 o.program.program.strands) last ∙ ap (strand_programs w (last_strand ts) 0) (sym strands);
           actors_are = refl;

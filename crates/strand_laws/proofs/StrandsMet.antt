@@ -2,7 +2,6 @@
 use Rattle.std.proofs.Common.{arith, ◌≡◌, ◌≤◌, ◌<◌, ◌+◌, inl, inr, ℕ, zero, suc, List, [], ◌∷◌, ◌++◌, length, take, drop, Option, Some, None, refl, sym, ap, ◌∙◌, subst}
 use Rattle.std.proofs.Common.{append_assoc, length-append, length-take, take-append-drop}
 use Rattle.std.specs.Prelude.{map}
-use Rattle.std.proofs.lemmas.List.Elements.{All-take}
 use Rattle.wa_model.specs.Machine.{Ran}
 use Rattle.wa_model.specs.declared.events.End.TheVariants.{StepsSpent}
 use Rattle.wa_model.specs.Outside.{Event, ended}
@@ -18,9 +17,9 @@ use Rattle.strand_laws.proofs.StrandForks.{GoesOn, StrandForks, count_at, longer
 use Rattle.strand_laws.proofs.StrandTails.{calls_both, calls_by, notes_same, standing_tailed, store_tailed, tail_standing}
 use Rattle.strand_laws.proofs.TurnsTold.{told_ready}
 use Rattle.strand_laws.proofs.WorldTurns.{ready_lt}
-use Rattle.strand_laws.specs.StrandWorld.{HeldStrands, PokesApart, StrandsInWorld, areas_but, notes_of, strand_actors, strand_unless_over}
+use Rattle.strand_laws.specs.StrandWorld.{HeldStrands, StrandsInWorld, notes_of, strand_actors, strand_unless_over}
 use Rattle.strand_laws.specs.StrandsMet.{HaveOutcomes, StrandStoriesOfMet, met_of}
-use Rattle.strand_laws.specs.Strands.{PokesOff, ProtocolStrands, Strand, outcomes_at}
+use Rattle.strand_laws.specs.Strands.{ProtocolStrands, outcomes_at}
 use Rattle.strand_laws.specs.Weaving.{all_due}
 use Rattle.strand_laws.specs.Woven.{Ready, Told, Woven, standing_now}
 
@@ -119,11 +118,6 @@ actors_have g ts i (os ∷ oss) h =
 pub actors_met : (g : StrandsInWorld) (ts : List Told) (i : ℕ) (oss : List (List Outcome)) → map met (strand_actors g ts i oss) ≡ met_of ts i oss
 actors_met g ts i [] = refl
 actors_met g ts i (os ∷ oss) = ap (λ (xss : List (List Outcome)). take (calls_by i ts) os ∷ xss) (actors_met g ts (suc i) oss)
-
--- the outcomes that are met keep off where all do
-pub pokes_met : (ss : List Strand) (ts : List Told) (i : ℕ) (oss : List (List Outcome)) → PokesApart ss i oss → PokesApart ss i (met_of ts i oss)
-pokes_met ss ts i [] h = tt
-pokes_met ss ts i (os ∷ oss) h = (All-take (PokesOff (areas_but i 0 ss)) (calls_by i ts) os h.0, pokes_met ss ts (suc i) oss h.1)
 
 pub met_wide : (ts : List Told) (i : ℕ) (oss : List (List Outcome)) → length (met_of ts i oss) ≡ length oss
 met_wide ts i [] = refl

@@ -1,5 +1,5 @@
 -- Three strands over what is emitted of a small module tell in a world all that its own strands tell.
-use Rattle.std.proofs.Common.{arith, ◌≡◌, ◌≤◌, ◌<◌, ◌+◌, ◌⊎◌, inl, inr, ℕ, zero, suc, List, [], ◌∷◌, ◌++◌, length, Some, Bool, true, false, All, refl, ◌∙◌, subst, ⊎_elim, eqb-true, leb-true, ltb-true}
+use Rattle.std.proofs.Common.{arith, ◌≡◌, ◌≤◌, ◌<◌, ◌+◌, ◌⊎◌, inl, inr, ℕ, zero, suc, List, [], ◌∷◌, ◌++◌, length, Some, Bool, true, false, refl, ◌∙◌, subst, ⊎_elim, eqb-true, leb-true, ltb-true}
 use Rattle.std.specs.Prelude.{nat_eq, nat_le, nat_lt, slice_get, ◌&&◌, ◌||◌}
 use Rattle.std.proofs.lemmas.List.Elements.{All-cons, All-nil}
 use Rattle.std.proofs.lemmas.Option.{same_Some}
@@ -13,12 +13,8 @@ use Rattle.wa_types.specs.Pausing.{Policy, calls_of, save_all, save_live}
 use Rattle.wa_types.specs.Points.{call_points, points}
 use Rattle.wa_types.specs.Pruned.{pruned}
 use Rattle.wa_types.specs.Syntax.{Module}
-use Rattle.wa_model.specs.declared.answers.Area.{Area}
-use Rattle.wa_model.specs.declared.answers.Said.{Said}
 use Rattle.wa_model.specs.declared.answers.Said.TheVariants as S
 use Rattle.wa_model.specs.Behaves.{pause_stacks}
-use Rattle.wa_model.specs.Blocking.{overlap}
-use Rattle.wa_model.specs.Outside.{Poke}
 use Rattle.wa_model.specs.Plan.{given}
 use Rattle.world_model.specs.World.{Actor, HasNotes, IsNext, Program, an_event, at_start, no_event, turn_lines}
 use Rattle.emitted_form.specs.EmittedAs.{EmittedAs}
@@ -28,10 +24,10 @@ use Rattle.strand_laws.proofs.StrandStories.{bound_above, bounded_strands_end, c
 use Rattle.strand_laws.proofs.StrandWorlds.{bounded_worlds_held, compared_are_orderly, emitted_are_rewritten}
 use Rattle.strand_laws.proofs.Turns.{compared_there, turns_there}
 use Rattle.strand_laws.proofs.TwoActors.{gone_on, one_turn}
-use Rattle.strand_laws.specs.Example.{notes_of_three, outcomes_of_three, said_after, three_strands}
+use Rattle.strand_laws.specs.Example.{notes_of_three, outcomes_of_three, three_strands}
 use Rattle.strand_laws.specs.StrandOriginals.{LooksOff, StrandsBounded, StrandsMayRun, StrandsOrderly, StrandsStandIn}
-use Rattle.strand_laws.specs.StrandWorld.{BlockingStrandWorld, IsFinished, Staged, StrandOriginal, answers_of, areas_but, last_strand, looks_if, notes_of, strand_actors, strand_programs, StrungStrands, whole}
-use Rattle.strand_laws.specs.Strands.{BlockingStrands, PokesOff, areas_of, outcomes_at, plan_of, strand_at}
+use Rattle.strand_laws.specs.StrandWorld.{BlockingStrandWorld, IsFinished, Staged, StrandOriginal, answers_of, last_strand, looks_if, notes_of, strand_actors, strand_programs, StrungStrands, whole}
+use Rattle.strand_laws.specs.Strands.{BlockingStrands, areas_of, outcomes_at, plan_of, strand_at}
 use Rattle.strand_laws.specs.WorldExample.{EmittedTellsItsLines, ThreeTellAll, lines_of_three, three_over}
 use Rattle.strand_laws.specs.Woven.{Told, notes_told}
 
@@ -150,11 +146,6 @@ gone i = gone_on (paused_there i) [] []
 abbrev EndsNow : Actor → Type 0
 EndsNow a = a.notes ≡ []
 
-no_poke : (areas : List Area) (said : Said) (ticks : ℕ) → All (PokesOff areas) (said_after ticks said)
-no_poke areas said ticks =
-    All-cons (PokesOff areas) (given (record { said = said; pokes = []; ticks = ticks })) []
-    (All-nil (λ (p : Poke). All (λ (x : Area). overlap p.at (length p.bytes) x.at x.len ≡ false) areas)) (All-nil (PokesOff areas))
-
 abbrev staged : Staged
 staged = record { programs = strand_programs there.program (last_strand told) 0 three_strands.strands; actors = strand_actors there.program told 0 outcomes_of_three }
 
@@ -172,7 +163,6 @@ blocking_there = record {
       outcomes = outcomes_of_three;
       told = told;
       wide = refl;
-      pokes = (no_poke (areas_but 0 0 three_strands.strands) (S.Value (Some (V.I32 42))) 5, (no_poke (areas_but 1 0 three_strands.strands) (S.Value (Some (V.I32 1))) 3, (no_poke (areas_but 2 0 three_strands.strands) S.Trap 4, tt)));
       tells = tells_there;
       programs_are = refl;
       actors_are = refl;

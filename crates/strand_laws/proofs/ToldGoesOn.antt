@@ -1,17 +1,17 @@
 -- Told worlds of strands go on, turn by turn, as long as stories are.
-use Rattle.std.proofs.Common.{arith, ◌≡◌, ◌<◌, ◌≤◌, ◌⊎◌, inl, inr, ℕ, zero, suc, ◌+◌, List, [], ◌∷◌, ◌++◌, length, All, Some, Bool, true, false, refl, sym, ap, ◌∙◌, subst, append_assoc, append-nil}
+use Rattle.std.proofs.Common.{arith, ◌≡◌, ◌<◌, ◌≤◌, ◌⊎◌, inl, inr, ℕ, zero, suc, ◌+◌, List, [], ◌∷◌, ◌++◌, length, Some, Bool, true, false, refl, sym, ap, ◌∙◌, subst, append_assoc, append-nil}
 use Rattle.std.proofs.Common.{length-append, eq-eqb, ne_eqb}
 use Rattle.std.specs.Prelude.{map, nat_eq, slice_get, slice_set, if◌then◌else◌}
 use Rattle.std.specs.List.{AllZip}
-use Rattle.std.proofs.lemmas.List.Elements.{All-append, All-head, All-nil, All-tail}
+use Rattle.std.proofs.lemmas.List.Elements.{All-head, All-tail}
 use Rattle.wa_model.specs.declared.answers.Detach.{Detach}
 use Rattle.wa_model.specs.Blocking.{Note}
 use Rattle.wa_model.specs.Plan.{Outcome}
 use Rattle.world_model.specs.World.{CallsMeet, Device, IsOver, Program, detached, events_with_looks}
 use Rattle.world_laws.proofs.Nexts.{SomeNext, some_next}
 use Rattle.strand_laws.proofs.Blocks.{lies_within, none_is, the_same}
-use Rattle.strand_laws.proofs.GoingOn.{Facts, Found, all_front, ended_all, facts, next_there}
-use Rattle.strand_laws.proofs.KnownTellers.{Known, calls_off, known_told}
+use Rattle.strand_laws.proofs.GoingOn.{Facts, Found, ended_all, facts, next_there}
+use Rattle.strand_laws.proofs.KnownTellers.{Known, known_told}
 use Rattle.strand_laws.proofs.NextTurn.{Next, next_turn, outcomes_with, story_of}
 use Rattle.strand_laws.proofs.Closing.{story_some}
 use Rattle.strand_laws.proofs.StoryLengths.{most_told, story_length}
@@ -19,9 +19,9 @@ use Rattle.strand_laws.proofs.StrandForks.{longer_each}
 use Rattle.strand_laws.proofs.ToldStrands.{Whole, calls_longer, mapped_get, rows, worlds_of, zip_get, zip_set}
 use Rattle.strand_laws.proofs.ToldWorlds.{Wholes, all_told_is_world, wholes, wide_told}
 use Rattle.strand_laws.proofs.TurnTaken.{some_told}
-use Rattle.strand_laws.specs.StrandWorld.{HeldStrands, PokesApart, ProtocolStrandWorld, StrandLine, StrandsInWorld, areas_but, joined, looks_if, strand_program}
-use Rattle.strand_laws.specs.Strands.{PokesOff, Strand, strand_at}
-use Rattle.strand_laws.specs.ToldStrands.{HasStory, HaveEnded, IsRest, LinesApart, ProgramTeller, StrandTeller, StrandWorldsEnd, TellsStrandTurn, TellsStrands, ToldStrandsGoOn}
+use Rattle.strand_laws.specs.StrandWorld.{HeldStrands, ProtocolStrandWorld, StrandLine, StrandsInWorld, joined, looks_if, strand_program}
+use Rattle.strand_laws.specs.Strands.{strand_at}
+use Rattle.strand_laws.specs.ToldStrands.{HasStory, HaveEnded, IsRest, ProgramTeller, StrandTeller, StrandWorldsEnd, TellsStrandTurn, TellsStrands, ToldStrandsGoOn}
 use Rattle.strand_laws.specs.ToldStrands.{having_told, line_of, met_and, starting, starting_strands, told_on}
 use Rattle.strand_laws.specs.Weaving.{HaveStrands}
 use Rattle.strand_laws.specs.Woven.{Told, told_by}
@@ -92,19 +92,6 @@ met_with f os i (suc k) n (u ∷ ss) s turn answers e is others h =
     ap (λ (xs : List Outcome). xs ∷ met_and (slice_set ss k (having_told s turn os answers)) []) (sym (append-nil u.met) ∙ ap (λ (xs : List Outcome). u.met ++ xs) (sym (others i (λ q. let no_way : ⊥ = omega (arith, e, q) in no_way))))
     ∙ ap (λ (xss : List (List Outcome)). (u.met ++ f i) ∷ xss) (met_with f os (suc i) k n ss s turn answers (omega (arith, e)) is others h)
 
-pub pokes_front : (ss : List Strand) (i : ℕ) (ts : List StrandTeller) (more : List (List Outcome)) → PokesApart ss i (met_and ts more) → PokesApart ss i (met_and ts [])
-pokes_front ss i [] more h = h
-pokes_front ss i (t ∷ ts) [] h = (h.0, pokes_front ss (suc i) ts [] h.1)
-pokes_front ss i (t ∷ ts) (os ∷ oss) h = (all_front (PokesOff (areas_but i 0 ss)) t.met os h.0, pokes_front ss (suc i) ts oss h.1)
-
-pub pokes_set : (ss : List Strand) (i k n : ℕ) (ts : List StrandTeller) (s : StrandTeller) (turn : List Note) (os : List Outcome) (answers : _) → n ≡ i + k → slice_get ts k ≡ Some s
-    → PokesApart ss i (met_and ts []) → All (PokesOff (areas_but n 0 ss)) os → PokesApart ss i (met_and (slice_set ts k (having_told s turn os answers)) [])
-pokes_set ss i k n [] s turn os answers e h p q = none_is s h
-pokes_set ss i zero n (t ∷ ts) s turn os answers e h p q =
-    let z : n ≡ i = omega (arith, e) in
-    (All-append (PokesOff (areas_but i 0 ss)) s.met os (subst (λ (u : StrandTeller). All (PokesOff (areas_but i 0 ss)) u.met) (the_same t s h) p.0) (subst (λ m. All (PokesOff (areas_but m 0 ss)) os) z q), p.1)
-pokes_set ss i (suc k) n (t ∷ ts) s turn os answers e h p q = (p.0, pokes_set ss (suc i) k n ts s turn os answers (omega (arith, e)) h p.1 q)
-
 -- nothing is left
 abbrev pub is_none : List Told → Bool
 is_none [] = true
@@ -116,7 +103,7 @@ rest_is (t ∷ ts) = omega arith
 
 -- ---- one more turn
 
-module _ (gs : List StrandsInWorld) (detaches : List Detach) (some : HaveStrands gs) (apart : All LinesApart gs) where
+module _ (gs : List StrandsInWorld) (detaches : List Detach) (some : HaveStrands gs) where
   -- A turn that is told next, behind which each program still has a story.
   record Goes (number : ℕ) (tellers : List ProgramTeller) (ds : List Device) : Type 0 where
     lines : List StrandLine
@@ -175,9 +162,6 @@ module _ (gs : List StrandsInWorld) (detaches : List Detach) (some : HaveStrands
     story_then = record {
       rest = n.rest;
       more = [];
-      pokes = pokes_set g.program.strands 0 f.k f.k f.t.strands f.s n.turn n.outcomes n.left (let z : f.k ≡ 0 + f.k = omega arith in z) f.strand_there
-          (pokes_front g.program.strands 0 f.t.strands here.more here.pokes)
-          (calls_off (areas_but f.k 0 g.program.strands) asks n.turn n.outcomes f.s.answers es n.left es n.calls (known_here.off f.k f.s f.strand_there)).0;
       story = subst (λ (oss : List (List Outcome)). HeldStrands g oss (t'.told ++ n.rest)) (sym met_is) n.story;
       is_rest = rest_is n.rest;
     }
@@ -237,7 +221,7 @@ module _ (gs : List StrandsInWorld) (detaches : List Detach) (some : HaveStrands
     from_step : (fuel count : ℕ) (lines : List StrandLine) (tellers : List ProgramTeller) (ds : List Device) → TellsStrands gs detaches ds0 count lines tellers ds
         → ((ls : List StrandLine) (ts : List ProgramTeller) (d : List Device) → TellsStrands gs detaches ds0 (suc count) ls ts d → AllZip HasStory gs ts → Ends ls) → AllZip HasStory gs tellers → Ends lines
     from_step fuel count lines tellers ds told again stories =
-        by (step (suc count) tellers ds (wide_told gs detaches ds0 count lines tellers ds told) (known_told gs detaches ds0 count lines tellers ds apart told) stories)
+        by (step (suc count) tellers ds (wide_told gs detaches ds0 count lines tellers ds told) (known_told gs detaches ds0 count lines tellers ds told) stories)
       where
         by : HaveEnded tellers ⊎ Goes (suc count) tellers ds → Ends lines
         by (inl ended) =
@@ -259,13 +243,9 @@ module _ (gs : List StrandsInWorld) (detaches : List Detach) (some : HaveStrands
         from_step (suc fuel) count lines tellers ds told (λ ls ts d h st. go_on fuel (suc count) ls ts d h st (omega (arith, le))) stories
 
 pub told_goes_on : ToldStrandsGoOn
-told_goes_on gs detaches ds count lines tellers ds' some apart told stories = go_on gs detaches some apart ds (most_in gs) count lines tellers ds' told stories (omega arith)
+told_goes_on gs detaches ds count lines tellers ds' some told stories = go_on gs detaches some ds (most_in gs) count lines tellers ds' told stories (omega arith)
 
 -- ---- from the start
-
-no_pokes : (g : StrandsInWorld) (qs : List Strand) (i : ℕ) (ss : List Strand) → PokesApart qs i (met_and (starting_strands g i ss) [])
-no_pokes g qs i [] = tt
-no_pokes g qs i (s ∷ ss) = (All-nil (PokesOff (areas_but i 0 qs)), no_pokes g qs (suc i) ss)
 
 stories_start : (gs : List StrandsInWorld) → AllZip HasStory gs (map starting gs)
 stories_start [] = tt
@@ -274,7 +254,6 @@ stories_start (g ∷ gs) =
       record {
         rest = story_of g oss;
         more = [];
-        pokes = no_pokes g g.program.strands 0 g.program.strands;
         story = refl;
         is_rest = story_some g oss (story_of g oss) refl;
       },
@@ -282,4 +261,4 @@ stories_start (g ∷ gs) =
     )
 
 pub worlds_end : StrandWorldsEnd
-worlds_end gs detaches ds some apart = told_goes_on gs detaches ds 0 [] (map starting gs) ds some apart (refl, refl, refl) (stories_start gs)
+worlds_end gs detaches ds some = told_goes_on gs detaches ds 0 [] (map starting gs) ds some (refl, refl, refl) (stories_start gs)

@@ -14,7 +14,7 @@ use Rattle.strand_laws.proofs.Blocks.{none_is, set_length, the_same}
 use Rattle.strand_laws.proofs.ToldStrands.{Fits, Goes, Whole, drop_told, fits_before, goes_then, lines_are, mapped_back, plays, programs_in, row, row_of, rows, staged_of, still_told, strands_of, then_there, worlds_of}
 use Rattle.strand_laws.proofs.ToldStrands.{zip_get, zip_set, zip_unset}
 use Rattle.strand_laws.proofs.TurnTaken.{dues_of}
-use Rattle.strand_laws.specs.StrandWorld.{HeldStrands, PokesApart, ProtocolStrandWorld, Staged, StartsStrands, StrandLine, StrandsInWorld, answers_of, joined, notes_of, strand_actors, strand_line, strand_lines}
+use Rattle.strand_laws.specs.StrandWorld.{HeldStrands, ProtocolStrandWorld, Staged, StartsStrands, StrandLine, StrandsInWorld, answers_of, joined, notes_of, strand_actors, strand_line, strand_lines}
 use Rattle.strand_laws.specs.Strands.{Strand, StrandProgram, outcomes_at}
 use Rattle.strand_laws.specs.ToldStrands.{AllToldStrandsAreWorld, HasStory, HaveEnded, IsRest, ProgramTeller, ProtocolStrandWorldUpTo, StrandTeller, TellsStrandTurn, TellsStrands, ToldStrandsAreWorld}
 use Rattle.strand_laws.specs.ToldStrands.{having_told, met_and, starting, starting_strands, told_on}
@@ -27,7 +27,6 @@ use Rattle.strand_laws.specs.Woven.{Told}
 pub record TellsAll (x : Whole) : Type 0 where
   pub some : 0 < length x.g.program.strands
   pub wide : length x.outcomes ≡ length x.g.program.strands
-  pub pokes : PokesApart x.g.program.strands 0 x.outcomes
   pub story : HeldStrands x.g x.outcomes x.all
 
 starting_row : (x : Whole) (rest : List Told) (i : ℕ) (ss : List Strand) (oss : List (List Outcome)) → length oss ≡ length ss
@@ -79,7 +78,7 @@ starts_all : (xs : List Whole) → Each xs → AllZip (StartsStrands HeldStrands
 starts_all [] h = tt
 starts_all (x ∷ xs) h =
     let t = h.0 in
-    (record { outcomes = x.outcomes; told = x.all; wide = t.wide; pokes = t.pokes; tells = t.story; programs_are = refl; actors_are = refl }, starts_all xs h.1)
+    (record { outcomes = x.outcomes; told = x.all; wide = t.wide; tells = t.story; programs_are = refl; actors_are = refl }, starts_all xs h.1)
 
 -- ---- turn by turn
 
@@ -253,7 +252,6 @@ wholes (g ∷ gs) (t ∷ ts) some wide h =
         record {
           some = All-head (λ (q : StrandsInWorld). 0 < length q.program.strands) g gs some;
           wide = met_wide t.strands s.more ∙ wide.0;
-          pokes = s.pokes;
           story = s.story;
         },
         on.each,

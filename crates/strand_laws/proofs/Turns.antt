@@ -13,11 +13,9 @@ use Rattle.wa_types.specs.Points.{call_points, points}
 use Rattle.wa_types.specs.Pruned.{pruned}
 use Rattle.wa_types.specs.Sizes.{value_fits}
 use Rattle.wa_model.specs.declared.answers.Area.{Area}
-use Rattle.wa_model.specs.declared.answers.Said.{Said}
 use Rattle.wa_model.specs.declared.answers.Said.TheVariants as S
 use Rattle.wa_model.specs.Behaves.{IsPrefix}
-use Rattle.wa_model.specs.Blocking.{State, begins, between, halts, overlap, runs}
-use Rattle.wa_model.specs.Outside.{Poke}
+use Rattle.wa_model.specs.Blocking.{State, begins, between, halts, runs}
 use Rattle.wa_model.specs.Plan.{AreaFits, EntryFits, Fits, Outcome, OutcomeFits, PokeFits, given}
 use Rattle.wa_model.specs.Store.{Range}
 use Rattle.wa_model.specs.Untouched.{IsCalm, StaysOff, next_ranges}
@@ -27,8 +25,8 @@ use Rattle.image_laws.proofs.ExampleModule.{can_there, formed_there, free_there,
 use Rattle.strand_laws.proofs.Emitted.{strands_of_emitted}
 use Rattle.strand_laws.proofs.Numbered.{pauses_at_numbers}
 use Rattle.strand_laws.specs.Example.{ThreeTakeTurns, notes_of_three, outcomes_of_three, said_after, strand_of, three_strands, told_by_emitted, told_of_three, used_by}
-use Rattle.strand_laws.specs.Strands.{AreApart, BlockingStrands, IsCalmAt, IsCalmNow, PokesOff, Strand, StrandsBehaveOn, StrandsCompared, StrandsNumbered}
-use Rattle.strand_laws.specs.Strands.{StrandsUntouched, Strung, events_told, on, outcomes_at, plan_of, strand_at, waits}
+use Rattle.strand_laws.specs.Strands.{AreApart, BlockingStrands, IsCalmAt, IsCalmNow, Strand, StrandsBehaveOn, StrandsCompared, StrandsNumbered}
+use Rattle.strand_laws.specs.Strands.{StrandsUntouched, Strung, events_told, on, plan_of, strand_at, waits}
 use Rattle.strand_laws.specs.Woven.{Ready, standing_now}
 
 pub turns_there : (policy : Policy) → events_told (notes_of_three policy) ≡ told_of_three (used_by policy)
@@ -145,18 +143,6 @@ OutFits os = All OutcomeFits os
 one_fits : (o : Outcome) → OutcomeFits o → OutFits (o ∷ [])
 one_fits o h = All-cons OutcomeFits o [] h (All-nil OutcomeFits)
 
--- an answer without pokes keeps off any area
-one_off : (x : Area) (said : Said) (ticks : ℕ) → All (PokesOff (x ∷ [])) (said_after ticks said)
-one_off x said ticks =
-    All-cons (PokesOff (x ∷ [])) (given (record { said = said; pokes = []; ticks = ticks })) []
-    (All-nil (λ (p : Poke). All (λ (y : Area). overlap p.at (length p.bytes) y.at y.len ≡ false) (x ∷ []))) (All-nil (PokesOff (x ∷ [])))
-
-all_keep_off : (x : Area) (i : ℕ) → All (PokesOff (x ∷ [])) (outcomes_at outcomes_of_three i)
-all_keep_off x zero = one_off x (S.Value (Some (V.I32 42))) 5
-all_keep_off x (suc zero) = one_off x (S.Value (Some (V.I32 1))) 3
-all_keep_off x (suc (suc zero)) = one_off x S.Trap 4
-all_keep_off x (suc (suc (suc i))) = All-nil (PokesOff (x ∷ []))
-
 abbrev answered_42 : List Outcome
 answered_42 = said_after 5 (S.Value (Some (V.I32 42)))
 
@@ -176,7 +162,6 @@ compared_there policy = record {
   outcomes = All-cons OutFits answered_42 (answered_1 ∷ trapped ∷ []) (one_fits (given (record { said = S.Value (Some (V.I32 42)); pokes = []; ticks = 5 })) (record { said = omega arith; pokes = All-nil PokeFits; ticks = omega arith }))
       (All-cons OutFits answered_1 (trapped ∷ []) (one_fits (given (record { said = S.Value (Some (V.I32 1)); pokes = []; ticks = 3 })) (record { said = omega arith; pokes = All-nil PokeFits; ticks = omega arith }))
       (All-cons OutFits trapped [] (one_fits (given (record { said = S.Trap; pokes = []; ticks = 4 })) (record { said = tt; pokes = All-nil PokeFits; ticks = omega arith })) (All-nil OutFits)));
-  pokes = λ i j li lj ne. all_keep_off (strand_at three_strands j).area i;
   untouched = untouched policy;
 }
 

@@ -1,4 +1,5 @@
 -- A strand's turn begins in both: it is answered behind a pause, or its first entry is called.
+use Rattle.run_theory.proofs.TestedPokes.{first_fits, fits_inside, passes_area}
 use Rattle.headline.specs.FlatLaw.{FlatLaw}
 use Rattle.world_model.specs.World.{ends_turn}
 use Rattle.wa_model.specs.declared.answers.Said.{Said}
@@ -6,7 +7,7 @@ use Rattle.image_laws.proofs.Restored.{over_store}
 use Rattle.headline.specs.Told.{answer_notes}
 use Rattle.headline.specs.World.{World, WorldFits}
 use Rattle.headline.specs.WrittenRuns.{WrittenLaw}
-use Rattle.headline.proofs.Asks.{by_said, no_bad_poke}
+use Rattle.headline.proofs.Asks.{by_said}
 use Rattle.headline.proofs.FlatStretches.{Sm as SameIn, near_same}
 use Rattle.headline.proofs.Reductions.{Allowed, LeftFits, r_begins, r_between, r_halts, r_runs}
 use Rattle.headline.proofs.StoresTogether.{store_laws}
@@ -33,7 +34,7 @@ use Rattle.wa_types.specs.Runtime.{global_space}
 use Rattle.wa_types.specs.Syntax.{Module}
 use Rattle.strand_laws.proofs.Apart.{Gap}
 use Rattle.strand_laws.proofs.Between.{AreGaps, Chain, InsideAll, middle_chain}
-use Rattle.strand_laws.proofs.Clear.{ClearOut, ClearPokes, chain_between, chain_resumed}
+use Rattle.strand_laws.proofs.Clear.{ClearPokes, chain_between, chain_resumed}
 use Rattle.strand_laws.proofs.InStep as I
 use Rattle.strand_laws.proofs.Middle.{Middle}
 use Rattle.strand_laws.proofs.Resumed.{Suspends, Woken, WokenTraps, rewound_from, traps_again, wakes_again}
@@ -109,19 +110,19 @@ module _ (family : Family) (laws : FamilyLaws family) where
   inside_too : (s s' : Store) → (Near family laws) s s' → InsideAll g.strands (length s.memory)
   inside_too s s' nr = let sm = nr.same in let e = sm.size in inside_more g.strands (length s'.memory) (length s.memory) (omega arith) nr.inside
 
-  wakes_fresh : (i c : ℕ) (li : i < count) (s s' : Store) (l : Left) → LeftFits (wd i) l → ClearOut (strand_at g i).area g.strands l.outcomes → (Near family laws) s s'
+  wakes_fresh : (i c : ℕ) (li : i < count) (s s' : Store) (l : Left) → LeftFits (wd i) l → (Near family laws) s s'
       → (es : List Entry) → l.entries ≡ es
       → WakesNow i c s s' (record { events = done_notes s es; last = on (on_to s l es) }) (record { events = done_notes s' es; last = held_on s' l es })
-  wakes_fresh i c li s s' l lf cl nr [] ee =
+  wakes_fresh i c li s s' l lf nr [] ee =
       I.wakes_up (note (ended Done) s) (note (ended Done) s') Done refl refl refl
       (record { event = refl; ends = nr.same; image = tt; kept = λ at e. cc; state = (state_zero family laws) i li s s' nr }) refl nr (λ j ne. same_kept j s')
-  wakes_fresh i c li s s' l lf cl nr (e ∷ es) ee =
+  wakes_fresh i c li s s' l lf nr (e ∷ es) ee =
       let ch = (to_both family laws) s s' nr in
       let t : Store = with_memory s s'.memory in
       I.wakes_on tt refl 0 0 [] (free s' l) stays tt tt (omega arith)
       (going_on (between s l) (between t l) (free s' l) ch.gaps li ch.are (chain_between ch.gaps s t l ch.chain)
       (r_between nr.good ((both_stores family laws) i li 0 s s' nr) lf (nothing_allowed i (between t l)))
-      (laws.known_free i li s' l lf e es ee nr.known) cl (inside_too s s' nr))
+      (laws.known_free i li s' l lf e es ee nr.known) (inside_too s s' nr))
       (λ q le. let z : q ≡ 0 = omega arith in subst
       (λ k. I.PartS A B (Go family laws) (Hang family laws) (Near family laws) (Sm family laws) (Kept family laws) (Q family laws) (Calm family laws) (Ok family laws) (dear family laws) i s []
       (run (B.next i) k (free s' l))) (sym z) (I.nothing_s refl nr.same))
@@ -146,13 +147,14 @@ module _ (family : Family) (laws : FamilyLaws family) where
       I.so_far_s r0.es1 r0.es2 r0.x r0.es_are ((alike_up family laws) i li ps (r0.es1 ++ r0.x ∷ []) (es1' ++ y ∷ []) r.events are ((join_up family laws) ps r0.es1 es1' r0.x y r0.first r0.here) al2)
       ((see_up family laws) i li ps r0.x.store y.store (store_held r.last) are u.chain sm)
 
-  pub poked_size : (s : Store) (area : Rattle.wa_model.specs.declared.answers.Area.Area) (qs : List Rattle.wa_model.specs.Outside.Poke) → bad_poke (length s.memory) area qs ≡ None
+  pub poked_size : (s : Store) (areas : List Rattle.wa_model.specs.declared.answers.Area.Area) (qs : List Rattle.wa_model.specs.Outside.Poke) → bad_poke (length s.memory) areas qs ≡ None
       → length (poked s qs).memory ≡ length s.memory
-  poked_size s area [] e = refl
-  poked_size s area (q ∷ qs) e =
-      let h = Rattle.strand_laws.proofs.Middle.bad_head (record { area = area; held = []; held' = [] }) (length s.memory) area q qs e in
-      let n : length (Rattle.wa_types.specs.Memory.overwritten s.memory q.at q.bytes) ≡ length s.memory = Rattle.wa_types.proofs.MemoryLemmas.length-overwritten s.memory q.at q.bytes h.0 in
-      poked_size (with_memory s (Rattle.wa_types.specs.Memory.overwritten s.memory q.at q.bytes)) area qs (subst (λ z. bad_poke z area qs ≡ None) (sym n) h.1) ∙ n
+  poked_size s areas [] e = refl
+  poked_size s areas (q ∷ qs) e =
+      let h = first_fits (length s.memory) areas q qs e in
+      let le = fits_inside (length s.memory) areas q h.0 in
+      let n : length (Rattle.wa_types.specs.Memory.overwritten s.memory q.at q.bytes) ≡ length s.memory = Rattle.wa_types.proofs.MemoryLemmas.length-overwritten s.memory q.at q.bytes le in
+      poked_size (with_memory s (Rattle.wa_types.specs.Memory.overwritten s.memory q.at q.bytes)) areas qs (subst (λ z. bad_poke z areas qs ≡ None) (sym n) h.1) ∙ n
 
   -- a call is answered so as its turn begins
   abbrev WakesBy : (i c : ℕ) (s s' : Store) (imp : ℕ) (e : Entry) (a : Answer) (lo : Left) (d : Configuration) (at : Store) → Said → Type 0
@@ -161,9 +163,9 @@ module _ (family : Family) (laws : FamilyLaws family) where
 
   wakes_suspended : (i c : ℕ) (s s' : Store) (top imp : ℕ) (e : Entry) (a : Answer) (lo : Left) (d d' : Configuration) (at : Store) (li : i < count)
       → Suspends (wd i) (ft i li) (store_laws (wd i)) (L i) (W i) G (law i li) top imp e a lo d' c s' → d'.here ≡ d.here → d'.under ≡ d.under
-      → Known i (rewound_from (wd i) e imp a lo at) → length at.memory ≤ length s'.memory → ClearOut (strand_at g i).area g.strands lo.outcomes → ClearPokes g.strands a.pokes
+      → Known i (rewound_from (wd i) e imp a lo at) → length at.memory ≤ length s'.memory → ClearPokes g.strands a.pokes
       → (Near family laws) s s' → WakesNow i c s s' (A.wakes s (waits (an_entry e) d a lo)) (B.wakes s' (rewound_from (wd i) e imp a lo at))
-  wakes_suspended i c s s' top imp e a lo d d' at li sp eh eu kn longer cl cp nr =
+  wakes_suspended i c s s' top imp e a lo d d' at li sp eh eu kn longer cp nr =
       by_said a.said
       (λ v told. subst (WakesBy i c s s' imp e a lo d at) (sym told) (with_value v told))
       (λ told. subst (WakesBy i c s s' imp e a lo d at) (sym told) (with_trap told))
@@ -179,8 +181,8 @@ module _ (family : Family) (laws : FamilyLaws family) where
           traps_again (wd i) (ft i li) (store_laws (wd i)) (L i) (W i) G (law i li) (Known i) (wl i li) (restored i li) top imp e a lo d' c s' t sp
           ((both_stores family laws) i li top s s' nr) nr.good k4 told in
           let sm = nr.same in
-          let bad : bad_poke (length s.memory) (strand_at g i).area a.pokes ≡ None = subst (λ n. bad_poke n (strand_at g i).area a.pokes ≡ None) (sym sm.size)
-          (no_bad_poke (func_type_at (Base m) imp).results (length s'.memory) (plan_of g (strand_at g i)) false imp a sp.passes) in
+          let bad : bad_poke (length s.memory) ((strand_at g i).area ∷ []) a.pokes ≡ None = subst (λ n. bad_poke n ((strand_at g i).area ∷ []) a.pokes ≡ None) (sym sm.size)
+          (passes_area (func_type_at (Base m) imp).results (length s'.memory) (plan_of g (strand_at g i)) false imp a sp.passes) in
           let pc : Chain ch.gaps (poked s a.pokes) (poked t a.pokes) =
           middle_chain ch.gaps _ _ (chain_resumed g.strands ch.gaps s t (an_entry e) d (strand_at g i).area a None lo ch.are ch.chain bad cp) in
           let x : Note = note (ended (Trapped Import)) (poked s a.pokes) in
@@ -188,7 +190,7 @@ module _ (family : Family) (laws : FamilyLaws family) where
           let yt : Note = note (ended (Trapped Import)) (poked t a.pokes) in
           let up : AllAlike ((NoteUp family laws) ch.gaps) (ys ++ x ∷ []) (note (answered S.Trap) (poked t a.pokes) ∷ yt ∷ []) =
           (record { event = refl; stack = refl; pause = refl; chain = pc }, (record { event = refl; stack = refl; pause = refl; chain = pc }, tt)) in
-          let psize : length (poked s a.pokes).memory ≡ length s.memory = poked_size s (strand_at g i).area a.pokes bad in
+          let psize : length (poked s a.pokes).memory ≡ length s.memory = poked_size s ((strand_at g i).area ∷ []) a.pokes bad in
           let lk = wk.like in
           let end0 : SameEnd (global_space m) (strand_at g i).area t s' = (store_laws (wd i)).same_end top t s' ((both_stores family laws) i li top s s' nr) in
           let end2 : SameEnd (global_space m) (strand_at g i).area (poked t a.pokes) (poked wk.store a.pokes) = (store_laws (wd i)).same_end top (poked t a.pokes) (poked wk.store a.pokes) lk in
@@ -223,8 +225,8 @@ module _ (family : Family) (laws : FamilyLaws family) where
           let to : Held = busy (is_running (an_entry e)) wk.to lo in
           let task : Task = an_entry e in
           let sm = nr.same in
-          let bad : bad_poke (length s.memory) (strand_at g i).area a.pokes ≡ None = subst (λ n. bad_poke n (strand_at g i).area a.pokes ≡ None) (sym sm.size)
-          (no_bad_poke (func_type_at (Base m) imp).results (length s'.memory) (plan_of g (strand_at g i)) false imp a sp.passes) in
+          let bad : bad_poke (length s.memory) ((strand_at g i).area ∷ []) a.pokes ≡ None = subst (λ n. bad_poke n ((strand_at g i).area ∷ []) a.pokes ≡ None) (sym sm.size)
+          (passes_area (func_type_at (Base m) imp).results (length s'.memory) (plan_of g (strand_at g i)) false imp a sp.passes) in
           let same_d : resumed d' (poked t a.pokes) (option_to_list v) ≡ resumed d (poked t a.pokes) (option_to_list v) =
           ap (λ (z : Activation). resumed (record { store = d.store; here = z; under = d'.under }) (poked t a.pokes) (option_to_list v)) eh
           ∙ ap (λ (z : List Activation). resumed (record { store = d.store; here = d.here; under = z }) (poked t a.pokes) (option_to_list v)) eu in
@@ -234,7 +236,7 @@ module _ (family : Family) (laws : FamilyLaws family) where
           subst (λ z. Middle ch.gaps (runs task (resumed d (poked s a.pokes) (option_to_list v)) lo) (runs task z lo)) (sym same_d) mid in
           let pc : Chain ch.gaps (poked s a.pokes) (poked t a.pokes) = middle_chain ch.gaps _ _ mid in
           let up : AllAlike ((NoteUp family laws) ch.gaps) (x ∷ []) (xt ∷ []) = (record { event = refl; stack = refl; pause = refl; chain = pc }, tt) in
-          let psize : length (poked s a.pokes).memory ≡ length s.memory = poked_size s (strand_at g i).area a.pokes bad in
+          let psize : length (poked s a.pokes).memory ≡ length s.memory = poked_size s ((strand_at g i).area ∷ []) a.pokes bad in
           let end0 : SameEnd (global_space m) (strand_at g i).area t s' = (store_laws (wd i)).same_end top t s' ((both_stores family laws) i li top s s' nr) in
           let end2 : SameEnd (global_space m) (strand_at g i).area (poked t a.pokes) (store_held to) = sees_rel i li 0 (10 * wk.left) _ _ wk.on in
           I.wakes_on (refl, tt) refl wk.cost (10 * wk.left) (wk.y ∷ []) to
@@ -243,7 +245,7 @@ module _ (family : Family) (laws : FamilyLaws family) where
           ((alike_up family laws) i li ch.gaps (x ∷ []) (xt ∷ []) (wk.y ∷ []) ch.are up
           (told_alike m st which written (exports_of written) (plan_of g (strand_at g i)) t (xt ∷ []) (wk.y ∷ []) b4 to wk.cost wk.tells))
           wk.few
-          (going_on (runs task (resumed d (poked s a.pokes) (option_to_list v)) lo) (runs task (resumed d' (poked t a.pokes) (option_to_list v)) lo) to ch.gaps li ch.are mid2 wk.on wk.known cl
+          (going_on (runs task (resumed d (poked s a.pokes) (option_to_list v)) lo) (runs task (resumed d' (poked t a.pokes) (option_to_list v)) lo) to ch.gaps li ch.are mid2 wk.on wk.known
           (inside_more g.strands (length s.memory) (length (poked s a.pokes).memory) (omega arith) (inside_too s s' nr)))
           (λ q le. part_up i li wk.told_call ch.gaps s t (x ∷ []) (xt ∷ []) 0 q (run (B.next i) q b4) ch.are ch.chain up
           (here m st which written (exports_of written) (plan_of g (strand_at g i)) wk.told_call t (xt ∷ []) (wk.y ∷ []) b4 to wk.cost wk.tells 0 wk.late wk.calls q le))
@@ -251,5 +253,5 @@ module _ (family : Family) (laws : FamilyLaws family) where
 
   -- THE SWITCH, for these strands
   pub wakes_now : (i c : ℕ) (a : Strung) (b : Held) (s s' : Store) → (Hang family laws) i c a b s' → (Near family laws) s s' → WakesNow i c s s' (A.wakes s a) (B.wakes s' b)
-  wakes_now i c _ _ s s' (fresh old old' _ l li lf cl) nr = wakes_fresh i c li s s' l lf cl nr l.entries refl
-  wakes_now i c _ _ s s' (suspended top imp e a lo d d' at _ li sp eh eu kn more cl cp) nr = wakes_suspended i c s s' top imp e a lo d d' at li sp eh eu kn more cl cp nr
+  wakes_now i c _ _ s s' (fresh old old' _ l li lf) nr = wakes_fresh i c li s s' l lf nr l.entries refl
+  wakes_now i c _ _ s s' (suspended top imp e a lo d d' at _ li sp eh eu kn more cp) nr = wakes_suspended i c s s' top imp e a lo d d' at li sp eh eu kn more cp nr

@@ -1,14 +1,14 @@
 -- A world of strands as it is told, note by note: so many whole turns, and the beginning of the next.
-use Rattle.std.specs.Prelude.{◌≡◌, ℕ, suc, List, [], ◌∷◌, ◌++◌, map, All, Some, Bool, true, false, slice_get, slice_set}
+use Rattle.std.specs.Prelude.{◌≡◌, ℕ, suc, List, [], ◌∷◌, ◌++◌, map, Some, Bool, true, false, slice_get, slice_set}
 use Rattle.std.specs.List.{AllZip}
 use Rattle.wa_model.specs.declared.answers.Detach.{Detach}
 use Rattle.wa_model.specs.Outside.{AnswerLine}
 use Rattle.wa_model.specs.Plan.{Outcome}
 use Rattle.wa_model.specs.Blocking.{Note, events_of}
 use Rattle.world_model.specs.World.{CallsMeet, Device, detached, ends_turn, looks_after}
-use Rattle.strand_laws.specs.StrandWorld.{HeldStrands, PokesApart, ProtocolStrandWorld, StrandLine, StrandsInWorld, looks_if, strand_program}
+use Rattle.strand_laws.specs.StrandWorld.{HeldStrands, ProtocolStrandWorld, StrandLine, StrandsInWorld, looks_if, strand_program}
 use Rattle.strand_laws.specs.Strands.{strand_at}
-use Rattle.strand_laws.specs.ToldStrands.{IsDueNext, IsRest, LinesApart, ProgramTeller, StrandTeller, TellsStrands, having_told, line_of, met_and, starting, told_on}
+use Rattle.strand_laws.specs.ToldStrands.{IsDueNext, IsRest, ProgramTeller, StrandTeller, TellsStrands, having_told, line_of, met_and, starting, told_on}
 use Rattle.strand_laws.specs.Weaving.{EndNoTurn, HaveStrands}
 use Rattle.strand_laws.specs.Woven.{Told}
 
@@ -41,10 +41,8 @@ pub record TellsOnStrands (programs : List StrandsInWorld) (detaches : List Deta
   pub after : tellers ≡ slice_set mid program (told_on t strand (having_told s turn met answers) turn false)
 
 -- What a program's strands have told begins what they tell whatever later calls meet, and is all of it exactly where the program has ended.
--- No outcome that was met pokes into another strand's area.
 pub record OnStory (g : StrandsInWorld) (t : ProgramTeller) : Type 0 where
   pub begins : (more : List (List Outcome)) → (rest : List Told) × HeldStrands g (met_and t.strands more) (t.told ++ rest) × IsRest t.has_ended rest
-  pub pokes : PokesApart g.program.strands 0 (met_and t.strands [])
 
 -- ---- laws
 
@@ -84,12 +82,12 @@ TurnEnds =
 abbrev pub ToldStrandsBegin : Type 0
 ToldStrandsBegin =
     (gs : List StrandsInWorld) (detaches : List Detach) (ds : List Device) (count : ℕ) (lines : List StrandLine) (tellers : List ProgramTeller) (ds' : List Device) → HaveStrands gs
-    → All LinesApart gs → TellsStrands gs detaches ds count lines tellers ds' → AllZip OnStory gs tellers
+    → TellsStrands gs detaches ds count lines tellers ds' → AllZip OnStory gs tellers
     → (more : List StrandLine) × (last : List Device) × ProtocolStrandWorld gs detaches ds (lines ++ more) last
 
 -- and so do those with the beginning of the next turn.
 abbrev pub BegunStrandsBegin : Type 0
 BegunStrandsBegin =
     (gs : List StrandsInWorld) (detaches : List Detach) (ds ds' : List Device) (number program strand due : ℕ) (lines : List StrandLine) (tellers : List ProgramTeller) → HaveStrands gs
-    → All LinesApart gs → TellsOnStrands gs detaches ds number program strand due lines tellers ds' → AllZip OnStory gs tellers
+    → TellsOnStrands gs detaches ds number program strand due lines tellers ds' → AllZip OnStory gs tellers
     → (more : List StrandLine) × (last : List Device) × ProtocolStrandWorld gs detaches ds (lines ++ more) last

@@ -1,10 +1,9 @@
 -- Several programs with strands over one list of devices: each strand is an actor of a world, and those of one program tell one woven run.
-use Rattle.std.specs.Prelude.{◌≡◌, ℕ, suc, ◌-◌, ◌≤◌, ◌<◌, nat_lt, nat_eq, if◌then◌else◌, List, [], ◌∷◌, ◌++◌, length, map, take, Option, Some, None, Bool, true, false, All, slice_get}
+use Rattle.std.specs.Prelude.{◌≡◌, ℕ, suc, ◌-◌, ◌≤◌, ◌<◌, nat_lt, nat_eq, if◌then◌else◌, List, [], ◌∷◌, ◌++◌, length, map, take, Option, Some, None, Bool, true, false, slice_get}
 use Rattle.std.specs.List.{AllZip, filter_map}
 use Rattle.std.specs.Option.{unwrap_or}
 use Rattle.wa_types.specs.Bounds.{Bound}
 use Rattle.wa_types.specs.Pausing.{Settings}
-use Rattle.wa_model.specs.declared.answers.Area.{Area}
 use Rattle.wa_model.specs.declared.answers.Detach.{Detach}
 use Rattle.wa_model.specs.declared.events.End.TheVariants.{StepsSpent}
 use Rattle.wa_model.specs.Behaves.{pause_stacks}
@@ -14,7 +13,7 @@ use Rattle.wa_model.specs.Plan.{Outcome}
 use Rattle.wa_model.specs.Protocol.{Held, store_held}
 use Rattle.wa_model.specs.Store.{Store}
 use Rattle.world_model.specs.World.{Actor, Device, Events, IsOver, Look, Program, at_start}
-use Rattle.strand_laws.specs.Strands.{BlockingStrands, PokesOff, ProtocolStrands, Strand, StrandMoment, StrandProgram, Strung, plan_of}
+use Rattle.strand_laws.specs.Strands.{BlockingStrands, ProtocolStrands, Strand, StrandMoment, StrandProgram, Strung, plan_of}
 use Rattle.strand_laws.specs.Woven.{Ready, Told, Woven, notes_told, standing_now}
 
 -- A program with strands in a world: its number of steps, which all strands share, the answer lines of each strand, for each function
@@ -101,16 +100,6 @@ abbrev pub strand_actors : StrandsInWorld → List Told → (number : ℕ) → L
 strand_actors g ts i [] = []
 strand_actors g ts i (os ∷ oss) = record { due = 0; notes = notes_of i ts; outcomes = os; answers = answers_of g i } ∷ strand_actors g ts (suc i) oss
 
--- the areas of all strands but one, where the first of these has the number i
-abbrev pub areas_but : (strand i : ℕ) → List Strand → List Area
-areas_but k i [] = []
-areas_but k i (s ∷ ss) = if nat_eq k i then areas_but k (suc i) ss else s.area ∷ areas_but k (suc i) ss
-
--- the pokes of each strand's outcomes, from this number on, keep off the areas of the others; off its own its plan has them
-abbrev pub PokesApart : List Strand → (number : ℕ) → List (List Outcome) → Type 0
-PokesApart ss i [] = Unit {0}
-PokesApart ss i (os ∷ oss) = All (PokesOff (areas_but i 0 ss)) os × PokesApart ss (suc i) oss
-
 -- The programs and the actors that a program's strands are.
 pub record Staged : Type 0 where
   pub programs : List Program
@@ -121,7 +110,6 @@ pub record StartsStrands (story : StrandsInWorld → List (List Outcome) → Lis
   pub outcomes : List (List Outcome)
   pub told : List Told
   pub wide : length outcomes ≡ length g.program.strands
-  pub pokes : PokesApart g.program.strands 0 outcomes
   pub tells : story g outcomes told
   pub programs_are : x.programs ≡ strand_programs g (last_strand told) 0 g.program.strands
   pub actors_are : x.actors ≡ strand_actors g told 0 outcomes

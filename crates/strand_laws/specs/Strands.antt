@@ -15,7 +15,7 @@ use Rattle.wa_model.specs.declared.answers.Area.{Area}
 use Rattle.wa_model.specs.declared.answers.Said.{Said}
 use Rattle.wa_model.specs.declared.answers.Said.TheVariants as S
 use Rattle.wa_model.specs.declared.events.End.{End}
-use Rattle.wa_model.specs.Outside.{Answer, Event, Poke}
+use Rattle.wa_model.specs.Outside.{Answer, Event}
 use Rattle.wa_model.specs.Machine.{Turn, stops, goes, Ran, still}
 use Rattle.wa_model.specs.Store.{Store}
 use Rattle.wa_model.specs.Configuration.{Configuration}
@@ -47,9 +47,13 @@ pub record StrandProgram : Type 0 where
 abbrev pub with_source : StrandProgram → Module → StrandProgram
 with_source g p = record { source = p; globals = g.globals; listed = g.listed; strands = g.strands }
 
--- the plan of one of its strands
+-- the areas of all strands
+abbrev pub areas_of : StrandProgram → List Area
+areas_of g = map (λ (x : Strand). x.area) g.strands
+
+-- the plan of one of its strands: answers leave the areas of all alone
 abbrev pub plan_of : StrandProgram → Strand → Plan
-plan_of g s = record { globals = g.globals; entries = s.entries; area = s.area; listed = g.listed }
+plan_of g s = record { globals = g.globals; entries = s.entries; area = s.area; others = areas_of g; listed = g.listed }
 
 -- no strand
 abbrev pub no_strand : Strand
@@ -201,10 +205,6 @@ pub record SameOff (globals : ℕ) (areas : List Area) (s s' : Store) : Type 0 w
   pub size : length s.memory ≡ length s'.memory
   pub outside : (x : ℕ) → All (λ (a : Area). (x < a.at) ⊎ (a.at + a.len ≤ x)) areas → slice_get s.memory x ≡ slice_get s'.memory x
 
--- the areas of all strands
-abbrev pub areas_of : StrandProgram → List Area
-areas_of g = map (λ (x : Strand). x.area) g.strands
-
 -- What a note of a strand of the rewritten module owes the note beside it: the same strand and event; the stores agree outside all
 -- areas; at a pause the strand's area holds the image of the stack; an answer behind a pause has read the frames since its turn
 -- began, and has changed nothing else of that area; and where the module may be called the state is 0.
@@ -240,14 +240,8 @@ StrandsNumbered s which g oss n = All (λ (t : Told). PauseNumbered g.source s w
 abbrev pub AreApart : Area → Area → Type 0
 AreApart a b = overlap a.at a.len b.at b.len ≡ false
 
--- the pokes of an outcome keep off these areas
-abbrev pub PokesOff : List Area → Outcome → Type 0
-PokesOff areas (given a) = All (λ (p : Poke). All (λ (x : Area). overlap p.at (length p.bytes) x.at x.len ≡ false) areas) a.pokes
-PokesOff areas _ = Unit {0}
-
 -- The runs that are compared: each strand's plan fits the original and tells the listed imports; areas share no byte; outcomes are in
--- range, one list for each strand, and their pokes keep off the areas of the other strands (at one into its own, which its plan has, a
--- program ends by a bad poke); no run touches an area.
+-- range, one list for each strand; no run touches an area.
 pub record StrandsCompared (s : Settings) (g : StrandProgram) (oss : List (List Outcome)) (n : ℕ) : Type 0 where
   pub some : 0 < length g.strands
   pub fits : All (λ (x : Strand). Fits g.source (plan_of g x)) g.strands
@@ -255,7 +249,6 @@ pub record StrandsCompared (s : Settings) (g : StrandProgram) (oss : List (List 
   pub apart : (i j : ℕ) → i < length g.strands → j < length g.strands → (i ≡ j → ⊥) → AreApart (strand_at g i).area (strand_at g j).area
   pub wide : length oss ≡ length g.strands
   pub outcomes : All (λ (os : List Outcome). All OutcomeFits os) oss
-  pub pokes : (i j : ℕ) → i < length g.strands → j < length g.strands → (i ≡ j → ⊥) → All (PokesOff ((strand_at g j).area ∷ [])) (outcomes_at oss i)
   pub untouched : StrandsUntouched s g oss n
 
 -- an event of a strand

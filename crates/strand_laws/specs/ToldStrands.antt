@@ -3,12 +3,12 @@ use Rattle.std.specs.Prelude.{◌≡◌, ℕ, zero, suc, ◌+◌, ◌<◌, ◌�
 use Rattle.std.specs.List.{AllZip}
 use Rattle.wa_model.specs.declared.answers.Detach.{Detach}
 use Rattle.wa_model.specs.Outside.{AnswerLine, Event, Line}
-use Rattle.wa_model.specs.Plan.{Outcome, given}
+use Rattle.wa_model.specs.Plan.{Outcome}
 use Rattle.wa_model.specs.Blocking.{Note}
 use Rattle.world_model.specs.World.{Actor, CallsMeet, Device, detached, ends_turn, events_with_looks, is_end, put_off}
 use Rattle.world_laws.specs.Played.{Played}
-use Rattle.strand_laws.specs.StrandWorld.{HeldStrands, PokesApart, ProtocolStrandWorld, Staged, StartsStrands, StrandLine, StrandsInWorld, answers_of, areas_but, joined, looks_if, strand_in, strand_lines, strand_program}
-use Rattle.strand_laws.specs.Strands.{PokesOff, Strand, strand_at}
+use Rattle.strand_laws.specs.StrandWorld.{HeldStrands, ProtocolStrandWorld, Staged, StartsStrands, StrandLine, StrandsInWorld, answers_of, joined, looks_if, strand_in, strand_lines, strand_program}
+use Rattle.strand_laws.specs.Strands.{Strand, strand_at}
 use Rattle.strand_laws.specs.Weaving.{HaveStrands}
 use Rattle.strand_laws.specs.Woven.{Told, told_by}
 
@@ -121,11 +121,10 @@ IsRest true rest = rest ≡ []
 IsRest false rest = 0 < length rest
 
 -- What a program's strands have told begins what they tell in the protocol world, for some outcomes that later calls may meet; it is all
--- of that exactly where the program has ended. No outcome pokes into another strand's area.
+-- of that exactly where the program has ended.
 pub record HasStory (g : StrandsInWorld) (t : ProgramTeller) : Type 0 where
   pub rest : List Told
   pub more : List (List Outcome)
-  pub pokes : PokesApart g.program.strands 0 (met_and t.strands more)
   pub story : HeldStrands g (met_and t.strands more) (t.told ++ rest)
   pub is_rest : IsRest t.has_ended rest
 
@@ -156,19 +155,15 @@ AllToldStrandsAreWorld =
     (gs : List StrandsInWorld) (detaches : List Detach) (ds : List Device) (count : ℕ) (lines : List StrandLine) (tellers : List ProgramTeller) (ds' : List Device) → HaveStrands gs
     → TellsStrands gs detaches ds count lines tellers ds' → AllZip HasStory gs tellers → HaveEnded tellers → ProtocolStrandWorld gs detaches ds lines ds'
 
--- no answer line of a strand pokes into the area of another
-abbrev pub LinesApart : StrandsInWorld → Type 0
-LinesApart g = (i : ℕ) → All (λ (l : AnswerLine). PokesOff (areas_but i 0 g.program.strands) (given l.answer)) (answers_of g i)
-
 -- And after however many turns, whatever the devices have replied so far, the world goes on to an end.
 abbrev pub ToldStrandsGoOn : Type 0
 ToldStrandsGoOn =
     (gs : List StrandsInWorld) (detaches : List Detach) (ds : List Device) (count : ℕ) (lines : List StrandLine) (tellers : List ProgramTeller) (ds' : List Device) → HaveStrands gs
-    → All LinesApart gs → TellsStrands gs detaches ds count lines tellers ds' → AllZip HasStory gs tellers
+    → TellsStrands gs detaches ds count lines tellers ds' → AllZip HasStory gs tellers
     → (more : List StrandLine) × (last : List Device) × ProtocolStrandWorld gs detaches ds (lines ++ more) last
 
 -- So for any programs with strands, detaches and devices there is a run that ends.
 abbrev pub StrandWorldsEnd : Type 0
 StrandWorldsEnd =
-    (gs : List StrandsInWorld) (detaches : List Detach) (ds : List Device) → HaveStrands gs → All LinesApart gs
+    (gs : List StrandsInWorld) (detaches : List Detach) (ds : List Device) → HaveStrands gs
     → (lines : List StrandLine) × (last : List Device) × ProtocolStrandWorld gs detaches ds lines last

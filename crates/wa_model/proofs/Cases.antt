@@ -84,7 +84,7 @@ bytes_of_note None at len = []
 bytes_of_note (Some x) at len = bytes_at x.store.memory at len
 
 abbrev plan_of : ℕ → List Entry → Plan
-plan_of len entries = record { globals = []; entries = entries; area = record { at = 0; len = len }; listed = Some (true ∷ []) }
+plan_of len entries = record { globals = []; entries = entries; area = record { at = 0; len = len }; others = []; listed = Some (true ∷ []) }
 
 abbrev entry : ℕ → List Value → Entry
 entry x args = record { func = x; args = args }
@@ -560,7 +560,7 @@ by_hand = with_runtime (module_with (record {
 }))
 
 abbrev by_hand_plan : Plan
-by_hand_plan = record { globals = []; entries = entry 1 (i32 7 ∷ []) ∷ []; area = record { at = 1024; len = 64 }; listed = Some (true ∷ []) }
+by_hand_plan = record { globals = []; entries = entry 1 (i32 7 ∷ []) ∷ []; area = record { at = 1024; len = 64 }; others = []; listed = Some (true ∷ []) }
 
 abbrev by_hand_events : ℕ → List Event
 by_hand_events n = events_of (Protocol by_hand by_hand_plan (answer (Some (i32 42)) 5 ∷ []) n).events

@@ -1,5 +1,6 @@
 -- Runs of a module whose imports block: each call of an import is answered at once.
 use Rattle.std.specs.Prelude.{ℕ, zero, suc, ◌+◌, nat_lt, nat_le, not, ◌&&◌, if◌then◌else◌, List, [], ◌∷◌, ◌++◌, length, map, Option, Some, None, Bool, true, false, slice_get}
+use Rattle.std.specs.List.{list_all}
 use Rattle.std.specs.Option.{option_to_list}
 use Rattle.wa_types.specs.declared.values.ValType.{ValType}
 use Rattle.wa_types.specs.declared.values.Value.{Value}
@@ -57,14 +58,18 @@ answers _ _ = false
 abbrev pub overlap : (at len at' len' : ℕ) → Bool
 overlap at len at' len' = nat_lt 0 len && nat_lt 0 len' && nat_lt at (at' + len') && nat_lt at' (at + len)
 
--- a poke lies inside a memory of this size, and off the area
-abbrev pub poke_fits : (size : ℕ) → Area → Poke → Bool
-poke_fits size area p = nat_le (p.at + length p.bytes) size && not (overlap p.at (length p.bytes) area.at area.len)
+-- a poke lies off an area
+abbrev pub is_off : Poke → Area → Bool
+is_off p area = not (overlap p.at (length p.bytes) area.at area.len)
+
+-- a poke lies inside a memory of this size, and off the areas
+abbrev pub poke_fits : (size : ℕ) → List Area → Poke → Bool
+poke_fits size areas p = nat_le (p.at + length p.bytes) size && list_all (is_off p) areas
 
 -- the first poke that doesn't
-abbrev pub bad_poke : (size : ℕ) → Area → List Poke → Option End
-bad_poke size area [] = None
-bad_poke size area (p ∷ ps) = if poke_fits size area p then bad_poke size area ps else Some (BadPoke p.at (length p.bytes))
+abbrev pub bad_poke : (size : ℕ) → List Area → List Poke → Option End
+bad_poke size areas [] = None
+bad_poke size areas (p ∷ ps) = if poke_fits size areas p then bad_poke size areas ps else Some (BadPoke p.at (length p.bytes))
 
 -- an import is told as unlisted
 abbrev pub is_unlisted : Option (List Bool) → ℕ → Bool
@@ -87,10 +92,10 @@ abbrev pub bad_value : List ValType → (import : ℕ) → Said → Option End
 bad_value results import (S.Value v) = if answers results v then None else Some (BadAnswer import v)
 bad_value results import S.Trap = None
 
--- The first test that an answer fails: a trap or a value of the type; pokes inside the memory, off the area; no pause in start, or of one told as unlisted.
+-- The first test that an answer fails: a trap or a value of the type; pokes inside the memory, off the areas; no pause in start, or of one told as unlisted.
 abbrev pub fault_of : List ValType → (size : ℕ) → Plan → (in_start : Bool) → (import : ℕ) → Answer → Option End
 fault_of results size plan in_start import a =
-    or_else (bad_value results import a.said) (or_else (bad_poke size plan.area a.pokes) (bad_pause in_start (is_unlisted plan.listed import) import a.ticks))
+    or_else (bad_value results import a.said) (or_else (bad_poke size (plan.area ∷ plan.others) a.pokes) (bad_pause in_start (is_unlisted plan.listed import) import a.ticks))
 
 -- the ticks of an answer that pauses
 abbrev pub pause_of : (ticks : ℕ) → Option ℕ

@@ -25,11 +25,12 @@ pub record Entry : Type 0 where
   pub func : ℕ
   pub args : List Value
 
--- A plan: the values of imported globals, the entries, the range kept for suspended stacks, and, where told, which imports are listed.
+-- A plan: the values of imported globals, the entries, the range kept for suspended stacks, further ranges that answers leave alone, and, where told, which imports are listed.
 pub record Plan : Type 0 where
   pub globals : List Value
   pub entries : List Entry
   pub area : Area
+  pub others : List Area
   pub listed : Option (List Bool)
 
 -- What a new call of an import meets: an answer, or the end of the program.

@@ -92,7 +92,7 @@ module _ (x : Source) (y : Part) (is : IsRewritten x y) where
   }
 
   abbrev planned : Option (List Bool) → Plan
-  planned listed = record { globals = y.given.globals; entries = calls_of es y.given.funcs; area = y.text.area; listed = listed }
+  planned listed = record { globals = y.given.globals; entries = calls_of es y.given.funcs; area = y.text.area; others = []; listed = listed }
 
   pub stands_in : StandsIn o (world_program y)
   stands_in = record {

@@ -2,7 +2,8 @@
 -- memory that is no longer now.
 use Rattle.std.proofs.Common.{◌≡◌, ◌≤◌, ℕ, zero, suc, ◌+◌, ◌*◌, Bool, true, false, cond, leb, List, [], ◌∷◌, ◌++◌, length, Option, Some, None, refl, sym, ap, ◌∙◌, subst, append-nil, length-append, arith}
 use Rattle.std.proofs.lemmas.List.{append_assoc}
-use Rattle.std.specs.Prelude.{◌&&◌, nat_eq, nat_le, nat_lt, not}
+use Rattle.std.specs.Prelude.{◌&&◌, nat_eq, nat_le, nat_lt}
+use Rattle.std.specs.List.{list_all}
 use Rattle.std.proofs.lemmas.Bool.{le-leb, leb-true}
 use Rattle.wa_types.specs.declared.values.ValType.{ValType}
 use Rattle.wa_types.specs.declared.values.Value.{Value}
@@ -22,7 +23,7 @@ use Rattle.wa_model.specs.Configuration.{Configuration}
 use Rattle.wa_model.specs.Step.{Next, steps, asks, returns, traps, stuck, step}
 use Rattle.wa_model.specs.Plan.{Entry, Plan, Outcome, given, refused}
 use Rattle.wa_model.specs.Instantiation.{Opening, fails_as, least_of, opens}
-use Rattle.wa_model.specs.Blocking.{Note, bad_pause, bad_poke, bad_value, call_note, done_notes, fault_of, is_unlisted, or_else, overlap, pause_of, poked, Task, the_start, an_entry, Left, with_outcomes, Asker, inside, outermost, store_at, stack_at, in_start, next_entry, all_left}
+use Rattle.wa_model.specs.Blocking.{Note, bad_pause, bad_poke, bad_value, call_note, done_notes, fault_of, is_off, is_unlisted, or_else, pause_of, poked, Task, the_start, an_entry, Left, with_outcomes, Asker, inside, outermost, store_at, stack_at, in_start, next_entry, all_left}
 use Rattle.wa_model.specs.Protocol.{Exports, exports_of, Phase, is_running, unwinds, rewinds, Then, give_zero, test_unwound, pause_there, call_again, test_rewound, give_answer, Held, free, starting, busy, calling, aside, entering, over, protocol, broken, with_words, held_on, held_back, held_given, held_resumed, held_pauses, held_tested, held_asked, busy_step, is_state, aside_back, aside_step, busy_enters, held_next, aside_called, held_start, held_begun}
 use Rattle.run_laws.specs.FittingStates.{ExportsTyped, HeldFits}
 use Rattle.run_laws.proofs.Host.{fault_pokes}
@@ -39,18 +40,18 @@ or_none : (a b : Option End) → a ≡ None → b ≡ None → or_else a b ≡ N
 or_none None b e f = f
 or_none (Some x) b e f = cc
 
-pokes_grow : (size more : ℕ) (area : Area) (ps : List Poke) → size ≤ more → bad_poke size area ps ≡ None → bad_poke more area ps ≡ None
-pokes_grow size more area [] le e = refl
-pokes_grow size more area (p ∷ ps) le e = by_place (leb (p.at + length p.bytes) size) refl (not (overlap p.at (length p.bytes) area.at area.len)) refl e
-    (pokes_grow size more area ps le)
+pokes_grow : (size more : ℕ) (areas : List Area) (ps : List Poke) → size ≤ more → bad_poke size areas ps ≡ None → bad_poke more areas ps ≡ None
+pokes_grow size more areas [] le e = refl
+pokes_grow size more areas (p ∷ ps) le e = by_place (leb (p.at + length p.bytes) size) refl (list_all (is_off p) areas) refl e
+    (pokes_grow size more areas ps le)
   where
-    by_place : (b : Bool) → leb (p.at + length p.bytes) size ≡ b → (c : Bool) → not (overlap p.at (length p.bytes) area.at area.len) ≡ c
-        → cond (b && c) (bad_poke size area ps) (Some (BadPoke p.at (length p.bytes))) ≡ None → (bad_poke size area ps ≡ None → bad_poke more area ps ≡ None)
-        → cond (nat_le (p.at + length p.bytes) more && not (overlap p.at (length p.bytes) area.at area.len)) (bad_poke more area ps) (Some (BadPoke p.at (length p.bytes))) ≡ None
+    by_place : (b : Bool) → leb (p.at + length p.bytes) size ≡ b → (c : Bool) → list_all (is_off p) areas ≡ c
+        → cond (b && c) (bad_poke size areas ps) (Some (BadPoke p.at (length p.bytes))) ≡ None → (bad_poke size areas ps ≡ None → bad_poke more areas ps ≡ None)
+        → cond (nat_le (p.at + length p.bytes) more && list_all (is_off p) areas) (bad_poke more areas ps) (Some (BadPoke p.at (length p.bytes))) ≡ None
     by_place true z true y k on =
         let fits = leb-true (p.at + length p.bytes) size z in
         let there : nat_le (p.at + length p.bytes) more ≡ true = le-leb (p.at + length p.bytes) more (omega (arith, fits, le)) in
-        (λ i. cond (there i && y i) (bad_poke more area ps) (Some (BadPoke p.at (length p.bytes)))) ∙ on k
+        (λ i. cond (there i && y i) (bad_poke more areas ps) (Some (BadPoke p.at (length p.bytes)))) ∙ on k
     by_place true z false y k on = cc
     by_place false z c y k on = cc
 
@@ -58,9 +59,9 @@ pub fault_grows : (results : List ValType) (size more : ℕ) (plan : Plan) (star
     → fault_of results more plan start import a ≡ None
 fault_grows results size more plan start import a le e =
     let one = none_of (bad_value results import a.said) _ e in
-    let two = none_of (bad_poke size plan.area a.pokes) _ one.1 in
+    let two = none_of (bad_poke size (plan.area ∷ plan.others) a.pokes) _ one.1 in
     or_none (bad_value results import a.said) _ one.0
-    (or_none (bad_poke more plan.area a.pokes) (bad_pause start (is_unlisted plan.listed import) import a.ticks) (pokes_grow size more plan.area a.pokes le two.0) two.1)
+    (or_none (bad_poke more (plan.area ∷ plan.others) a.pokes) (bad_pause start (is_unlisted plan.listed import) import a.ticks) (pokes_grow size more (plan.area ∷ plan.others) a.pokes le two.0) two.1)
 
 -- ---- what notes tell
 

@@ -87,7 +87,7 @@ module _ (x : Part) (z : ScriptPlan) (p : IsPlanned x z) where
   abbrev world_of : Module → Option (List Bool) → List Value → List NamedEntry → Area → ℕ → List AnswerLine → W.Program
   world_of source listed globals entries area steps answers = record {
     source = source;
-    plan = record { globals = globals; entries = calls_of entries x.given.funcs; area = area; listed = listed };
+    plan = record { globals = globals; entries = calls_of entries x.given.funcs; area = area; others = []; listed = listed };
     steps = steps;
     answers = answers;
     binds = bindings x.source x.text.binds;

@@ -1,5 +1,5 @@
 -- What is told of the programs of a script, which share a list of devices.
-use Rattle.std.specs.Prelude.{◌≡◌, ◌⊎◌, ◌≤◌, ◌<◌, ◌^◌, ◌++◌, ℕ, List, length, map, take, Option, Some, Bool, All}
+use Rattle.std.specs.Prelude.{◌≡◌, ◌⊎◌, ◌≤◌, ◌<◌, ◌^◌, ◌++◌, ℕ, List, [], length, map, take, Option, Some, Bool, All}
 use Rattle.wa_types.specs.Modules.{func_imports}
 use Rattle.wa_types.specs.Sizes.{value_fits}
 use Rattle.wa_types.specs.Syntax.{Module}
@@ -63,7 +63,7 @@ look_at s = record { at = s.at; len = s.len }
 abbrev pub world_program : Part → Program
 world_program x = record {
   source = x.source;
-  plan = record { globals = x.given.globals; entries = calls_of (map named_entry x.text.entries) x.given.funcs; area = x.text.area; listed = x.listed };
+  plan = record { globals = x.given.globals; entries = calls_of (map named_entry x.text.entries) x.given.funcs; area = x.text.area; others = []; listed = x.listed };
   steps = x.text.steps;
   answers = x.text.answers;
   binds = bindings x.source x.text.binds;

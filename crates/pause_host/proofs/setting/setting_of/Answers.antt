@@ -6,6 +6,7 @@ pub returns : goal.returns
 returns c = record {
   exports = c.exports_of.ensures (module_of c.args.«module».now) (sym c.deref.ensures.value);
   area_is = refl;
+  no_others = c.new-others.ensures.items;
   listed_is = refl;
   binds_are = refl;
   steps_are = refl;
