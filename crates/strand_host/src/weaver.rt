@@ -10,7 +10,7 @@ ghost use Rattle.strand_laws.specs.StrandWorld.{StrandsInWorld};
 ghost use Rattle.strand_laws.specs.ToldStrands.{ProgramTeller};
 ghost use Rattle.strand_host.specs.StrandTelling.{IsToldSo, TellsStrandNote};
 
-use crate::strand_event::StrandEvent;
+use crate::strands::StrandEvent;
 use device_port::Devices;
 use std::alloc::AllocError;
 
