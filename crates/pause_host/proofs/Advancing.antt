@@ -111,7 +111,7 @@ module _ (w : W.Program) where
   bound_taken import args (Some name) lines lines' m m' o h k = subst (All HasShortPokes) (sym h.1) k
   bound_taken import args None lines lines' m m' o h k = line_taken import (name_at (import_names w.source) import) lines o lines' h.0 k
 
-  pokes_then : (c : Option Call) (old : MailSupply) (os : List Outcome) (new : MailSupply) → TakesMail w c old os new → All HasShortPokes old.lines → All HasShortPokes new.lines
+  pub pokes_then : (c : Option Call) (old : MailSupply) (os : List Outcome) (new : MailSupply) → TakesMail w c old os new → All HasShortPokes old.lines → All HasShortPokes new.lines
   pokes_then None old os new t k = subst (λ (z : MailSupply). All HasShortPokes z.lines) (sym t.1) k
   pokes_then (Some c) old os new t k = bound_taken c.import c.args (bound_to w c.import) old.lines new.lines old.amid new.amid t.0 t.2.meets k
 

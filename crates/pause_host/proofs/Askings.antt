@@ -1,5 +1,5 @@
 -- New calls of imports, and where their outcomes lead.
-use Rattle.std.proofs.Common.{◌≡◌, ◌≤◌, ℕ, zero, suc, List, [], ◌∷◌, length, Option, Some, None, true, false, cond, refl, sym, ap, ◌∙◌, subst}
+use Rattle.std.proofs.Common.{◌≡◌, ◌≤◌, ℕ, zero, suc, List, [], ◌∷◌, length, Option, Some, None, true, false, cond, refl, sym, ap, ◌∙◌, subst, append-nil, arith}
 use Rattle.std.specs.Option.{option_to_list}
 use Rattle.wa_types.specs.declared.values.Value.TheVariants as V
 use Rattle.wa_types.specs.Syntax.{Module}
@@ -12,12 +12,13 @@ use Rattle.wa_model.specs.declared.events.End.{End}
 use Rattle.wa_model.specs.declared.events.Event.TheVariants as EV
 use Rattle.wa_model.specs.Outside.{Answer, Poke, answered, ended}
 use Rattle.wa_model.specs.View.{answer_of, call_of, event_of}
-use Rattle.wa_model.specs.Machine.{Turn, goes}
+use Rattle.wa_model.specs.Machine.{Turn, goes, Leads, stays, moves}
 use Rattle.wa_model.specs.Store.{Store}
 use Rattle.wa_model.specs.Plan.{Outcome, given, refused}
 use Rattle.wa_model.specs.Blocking.{Note, note, call_note, Left, with_outcomes, Asker, resumed, the_start, an_entry, store_at, stack_at, in_start, fault_of, pause_of, poked, done_notes, import_traps}
 use Rattle.wa_model.specs.Protocol.{Exports, exports_of, is_running, Held, busy, over, calling, unwinds, give_zero, with_words, held_on, held_given, held_pauses, held_asked, held_tested, protocol}
 use Rattle.world_model.specs.World.{Program}
+use Rattle.run_theory.proofs.Runs.{leads_on}
 use Rattle.run_laws.proofs.Host.{fault_pokes}
 use Rattle.run_laws.proofs.StandingPauses.{fault_outside}
 use Rattle.interp.specs.Instance as I
@@ -151,6 +152,13 @@ module _ (w : Program) (h : Held) (l : Left) (left used : ℕ) (call : CallValue
   abbrev told : Option ℕ → Note
   told pause = call_note call.import call.args.items (store_at who) (stack_at p who) pause
 
+  -- the moves up to the call, and the call's
+  asks_lead : (os : List Outcome) (notes : List Note) (t : Held) → held_asked p x w.plan a0.k call.import call.args.items who (with_outcomes l os) os ≡ goes a0.k notes t
+      → Leads next (meeting os h) used notes t
+  asks_lead os notes t mv =
+      subst (λ n. Leads next (meeting os h) n notes t) (sym a0.used_is)
+      (leads_on Held Note next (meeting os h) (meeting os a0.at) t a0.cost (suc a0.k) [] notes (a0.first os) (moves (a0.asked os ∙ mv) stays (omega arith) (sym (append-nil notes))))
+
   -- a call is told, and the rest of what it makes is ready
   told_call : (m : Moved) (supply supply' : MailSupply) (o : Outcome) (pause : Option ℕ) (behind : List Note) (h' : Held) → m.event ≡ EV.Called call
       → MailAnswers w (call_of call) supply o supply'
@@ -164,7 +172,7 @@ module _ (w : Program) (h : Held) (l : Left) (left used : ℕ) (call : CallValue
       outcomes = o ∷ [];
       takes = (o, refl, meets);
       within = within;
-      lands = goes_on (told pause ∷ behind) behind h' (λ more. a0.asks (o ∷ more) (told pause ∷ behind) (meeting more h') (mv more)) refl refl place;
+      lands = goes_on (told pause ∷ behind) behind h' (λ more. asks_lead (o ∷ more) (told pause ∷ behind) (meeting more h') (mv more)) refl refl place;
     };
   }
 

@@ -80,13 +80,14 @@ module _ (w : Program) where
           h1.waits,
           record {
             k = r.k;
-            asks = λ os notes to mv.
-                let total : u + (r.cost + suc r.k) ≡ used = omega (arith, r.used_is) in
-                subst (λ n. Leads next (meeting os h) n notes to) total
-                (leads_on Held Note next (meeting os h) (meeting os (busy (is_running t) c l)) to u (r.cost + suc r.k) [] notes (go os)
-                (leads_on Held Note next (meeting os (busy (is_running t) c l)) (meeting os (busy (is_running t) r.at l)) to r.cost (suc r.k) [] notes
-                (busy_goes w (is_running t) l c r.at r.cost r.runs os)
-                (moves (ap (busy_step p x w.plan (is_running t) (with_outcomes l os)) r.next_is ∙ mv) stays (omega arith) (sym (append-nil notes)))));
+            at = busy (is_running t) r.at l;
+            cost = u + r.cost;
+            first = λ os.
+                leads_on Held Note next (meeting os h) (meeting os (busy (is_running t) c l)) (meeting os (busy (is_running t) r.at l)) u r.cost [] [] (go os)
+                (busy_goes w (is_running t) l c r.at r.cost r.runs os);
+            there = refl;
+            asked = λ os. ap (busy_step p x w.plan (is_running t) (with_outcomes l os)) r.next_is;
+            used_is = omega (arith, r.used_is);
           },
           omega (arith, r.within),
         )
@@ -224,14 +225,15 @@ module _ (w : Program) where
               k.waits,
               record {
                 k = 0;
-                asks = λ os notes to mv.
-                    subst (λ n. Leads next (meeting os (starting f s l)) n notes to) (sym k.cost)
-                    (moves
-                    (start_move l f s os lt
+                at = starting f s l;
+                cost = 0;
+                first = nowhere_on p w.plan (starting f s l);
+                there = tt;
+                asked = λ os.
+                    start_move l f s os lt
                     ∙ ap (λ i. held_asked p x w.plan 0 i [] (outermost s) (with_outcomes l os) os) (sym k.call.0)
-                    ∙ ap (λ vs. held_asked p x w.plan 0 call.import vs (outermost s) (with_outcomes l os) os) (sym k.call.1)
-                    ∙ mv)
-                    stays (omega arith) (sym (append-nil notes)));
+                    ∙ ap (λ vs. held_asked p x w.plan 0 call.import vs (outermost s) (with_outcomes l os) os) (sym k.call.1);
+                used_is = omega (arith, k.cost);
               },
               omega (arith, k.cost),
             )

@@ -48,8 +48,13 @@ calls_behind w h h1 ready left0 u left1 used1 task call l s waits sum stretch c 
       who = c.who;
       asks = record {
         k = c.asks.k;
-        asks = λ os notes t mv.
-            leads_on Held Note (protocol w.source (exports_of w.source) w.plan) (meeting os h) (meeting os c.held) t u used1 [] notes (first os) (c.asks.asks os notes t mv);
+        at = c.asks.at;
+        cost = u + c.asks.cost;
+        first = λ os.
+            leads_on Held Note (protocol w.source (exports_of w.source) w.plan) (meeting os h) (meeting os c.held) (meeting os c.asks.at) u c.asks.cost [] [] (first os) (c.asks.first os);
+        there = c.asks.there;
+        asked = c.asks.asked;
+        used_is = omega (arith, c.asks.used_is);
       };
       within = omega (arith, c.within);
       asking = c.asking;

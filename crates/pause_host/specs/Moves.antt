@@ -12,7 +12,6 @@ use Rattle.wa_model.specs.declared.events.Event.{Event as EventValue}
 use Rattle.wa_model.specs.declared.events.Event.TheVariants as EventV
 use Rattle.wa_model.specs.Outside.{AnswerLine, ended}
 use Rattle.wa_model.specs.View.{event_of}
-use Rattle.wa_model.specs.Machine.{goes, Leads}
 use Rattle.wa_model.specs.Store.{Store}
 use Rattle.wa_model.specs.Configuration.{Configuration}
 use Rattle.wa_model.specs.Step.{returns, entered, step}
@@ -20,7 +19,7 @@ use Rattle.wa_model.specs.Plan.{Outcome}
 use Rattle.run_theory.specs.Alone.{Goes}
 use Rattle.wa_model.specs.Blocking as B
 use Rattle.wa_model.specs.Blocking.{Note, note, Asker, inside, outermost, the_start, an_entry, with_outcomes}
-use Rattle.wa_model.specs.Protocol.{exports_of, protocol, Held, busy, calling, over, Phase, is_running, unwinds, rewinds, Then, held_asked, store_held}
+use Rattle.wa_model.specs.Protocol.{exports_of, protocol, Held, starting, busy, calling, over, Phase, is_running, unwinds, rewinds, Then, held_asked, store_held}
 use Rattle.world_model.specs.World.{Program, base_names, call_in, import_names}
 use Rattle.run_laws.specs.FittingStates.{HeldFits, ExportsTyped}
 use Rattle.interp.specs.declared.turns.Turn.{Turn}
@@ -45,7 +44,7 @@ use Rattle.pause_host.specs.declared.stages.Stage.TheVariants as StageV
 use Rattle.pause_host.specs.declared.stages.Task.{Task}
 use Rattle.pause_host.specs.declared.stages.Task.TheVariants as T
 use Rattle.pause_host.specs.Mailing.{MailSupply, TellsMailFrom}
-use Rattle.pause_host.specs.Views.{exports_in, entry_of, is_pause, is_paused, is_stopping, place_in}
+use Rattle.pause_host.specs.Views.{exports_in, entry_of, is_pause, is_paused, is_stopping, place_in, starts}
 
 -- the setting is that of a program of a world, over a valid module with a memory and with the five exports
 pub record IsSetting (w : Program) (x : Setting) : Type 0 where
@@ -134,11 +133,22 @@ abbrev pub Exports : Program → Work → Store → (x : ℕ) → List Value →
 Exports w work s x args left used (X.Returned value) s' = Returns w.source s x args left used (option_to_list value) s'
 Exports w work s x args left used (X.Ended how) s' = (ph : Phase) (th : Then) (l : B.Left) → WorksIn work ph → EndsAt w (calling ph s x args th l) left used how s'
 
--- from where the machine stands an import is called, and the next outcome is asked for
+-- who waits has called an import from here
+abbrev pub AsksThere : Asker → Held → Type 0
+AsksThere (inside task c) (busy (is_running t) d l) = t ≡ task
+AsksThere (outermost s) (starting f old l) = Unit {0}
+AsksThere _ _ = ⊥
+
+-- From where the machine stands an import is called, and the next outcome is asked for, by one move behind others that make no note.
 pub record Asks (w : Program) (h : Held) (used import : ℕ) (args : List Value) (who : Asker) (l : B.Left) : Type 0 where
   pub k : ℕ
-  pub asks : (os : List Outcome) (notes : List Note) (t : Held) → held_asked w.source (exports_of w.source) w.plan k import args who (with_outcomes l os) os ≡ goes k notes t
-      → Leads (protocol w.source (exports_of w.source) w.plan) (meeting os h) used notes t
+  pub at : Held
+  pub cost : ℕ
+  pub first : Stretch w.source w.plan h [] [] cost at
+  pub there : AsksThere who at
+  pub asked : (os : List Outcome)
+      → protocol w.source (exports_of w.source) w.plan (meeting os at) ≡ held_asked w.source (exports_of w.source) w.plan k import args who (with_outcomes l os) os
+  pub used_is : used ≡ cost + suc k
 
 -- who waits for a task, over a store
 abbrev pub IsAsking : Task → Waits → Store → Asker → Type 0
@@ -185,6 +195,11 @@ NextPauses (N.Calls task call) = Unit {0}
 abbrev pub NextStops : Next → Type 0
 NextStops (N.Told m) = Stops m
 NextStops (N.Calls task call) = ⊥
+
+-- A new call comes inside the start function.
+abbrev pub NextStarts : Next → Type 0
+NextStarts (N.Told m) = ⊥
+NextStarts (N.Calls task call) = starts task ≡ true
 
 -- this end comes, and was told then
 abbrev pub TellsEnd : End → Next → Type 0

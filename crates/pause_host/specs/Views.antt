@@ -149,6 +149,13 @@ abbrev pub starts : Task → Bool
 starts (T.Entry e) = false
 starts _ = true
 
+-- a stage inside the start function
+abbrev pub is_starting : Stage → Bool
+is_starting (Answering task answer) = starts task
+is_starting (Giving T.Start value) = true
+is_starting (Ending end) = true
+is_starting _ = false
+
 -- the stage behind an answer that passes its tests, by its ticks
 abbrev pub stage_passed : (ticks : ℕ) → Task → (import : ℕ) → AnswerValue → Stage
 stage_passed zero task import a = Answering task a

@@ -62,3 +62,13 @@ pub use laws::calls_meet_as_in_worlds;
 pub use plan::Plan;
 pub use program::Program;
 pub use snapshot_store::PausedParts;
+
+// For `strand_host`, which has several stages over one instance.
+pub use ends::copy_end;
+pub use entries::entry_calls;
+pub use events::next_event;
+pub use running::{tell_answer, told};
+pub use setting::setting_of;
+pub use stages::{
+    EntryCall, Exports, Given, Heard, HostImport, Left, Moved, Next, Pause, Setting, Stage, Task,
+};

@@ -18,8 +18,8 @@ ghost use Rattle.host_laws.specs.Supplies.{RisesAtMostOne};
 ghost use Rattle.pause_host.specs.Holding.{HoldsArea, PokesInside};
 ghost use Rattle.pause_host.specs.Hosting.{AsksOnly, CallsOne, HasMemory, HostsAt, MayAsk, StartRan, StopsFirst};
 ghost use Rattle.pause_host.specs.Mailing.{MailSupply, awaits_in, latest, mail_supply};
-ghost use Rattle.pause_host.specs.Moves.{Asks, Comes, ComesFrom, HasShortPokes, IsAsking, IsSetting, IsTask, NextFrom, NextPauses, NextStops, PausesSo, PlaceFits, Stops, StopsAtReceive, TaskTurn};
-ghost use Rattle.pause_host.specs.Views.{entry_of, free_place, is_paused, is_stopping, left_of, lines_in, place_in, stage_after, starts};
+ghost use Rattle.pause_host.specs.Moves.{Asks, Comes, ComesFrom, HasShortPokes, IsAsking, IsSetting, IsTask, NextFrom, NextPauses, NextStarts, NextStops, PausesSo, PlaceFits, Stops, StopsAtReceive, TaskTurn};
+ghost use Rattle.pause_host.specs.Views.{entry_of, free_place, is_paused, is_starting, is_stopping, left_of, lines_in, place_in, stage_after, stage_told, starts};
 
 use crate::asking::{Asked, next_outcome};
 use crate::ends::ends;
@@ -192,7 +192,7 @@ fn stopped(setting: &Setting, task: Task, turn: Turn) -> Result<Next, AllocError
 }
 
 /// What is told: the event that comes, or the new call that does, with the outcome that it meets.
-pub(crate) fn told(
+pub fn told(
     setting: &Setting,
     instance: &Instance<'_>,
     answers: &mut VecDeque<AnswerLine>,
@@ -210,6 +210,7 @@ pub(crate) fn told(
     ensures pauses { IfOk result (λ h. PausesSo h.moved) }
     ensures receives { IfOk result StopsAtReceive }
     ensures stops { NextStops next → IfOk result (λ h. Stops h.moved) }
+    ensures starts { NextStarts next → IfOk result (λ h. is_starting h.moved.stage ≡ true) }
     ensures kept { IsErr result → of_all seen devices.new ≡ of_all seen devices.old }
     ensures once { IsErr result → RisesAtMostOne (of_all faults devices.old) (of_all faults devices.new) }
     ensures mail { IsErr result → mail.new ≡ mail.old }
@@ -246,6 +247,7 @@ fn called(
         (mail_supply seen faults (lines_in answers.new.items) devices.new mail.new (awaits_in setting.now (latest x.receive r))) l (store_in instance.now) (waits_in instance.now)) }
     ensures pauses { IfOk result (λ x. PausesSo x.moved) }
     ensures receives { IfOk result StopsAtReceive }
+    ensures starts { starts new_call.task ≡ true → IfOk result (λ x. is_starting x.moved.stage ≡ true) }
     ensures kept { IsErr result → of_all seen devices.new ≡ of_all seen devices.old }
     ensures once { IsErr result → RisesAtMostOne (of_all faults devices.old) (of_all faults devices.new) }
     ensures mail { IsErr result → mail.new ≡ mail.old }
@@ -287,6 +289,7 @@ pub(crate) fn answered(
         → result ≡ stage_after (fault_of (option_to_list import.now.result) size w.plan (starts task) number (answer_of answer)) answer.ticks task number answer }
     ensures apart { is_paused result ≡ false }
     ensures stops { 0 < answer.ticks → is_stopping result ≡ true }
+    ensures starts { starts task ≡ true → is_starting result ≡ true }
 {
     let call = AnsweredCall {
         import: number,
@@ -331,6 +334,7 @@ fn passed(task: Task, import: u32, answer: Answer) -> Stage
     ensures stage { result ≡ stage_after None answer.ticks task import answer }
     ensures apart { is_paused result ≡ false }
     ensures stops { 0 < answer.ticks → is_stopping result ≡ true }
+    ensures starts { starts task ≡ true → is_starting result ≡ true }
 {
     if answer.ticks == 0 {
         return Stage::Answering { task, answer };
@@ -346,13 +350,14 @@ fn passed(task: Task, import: u32, answer: Answer) -> Stage
 }
 
 /// An answer is told, with what it writes into the memory; behind a trap comes the end.
-pub(crate) fn tell_answer(instance: &mut Instance<'_>, task: Task, answer: Answer) -> Moved
+pub fn tell_answer(instance: &mut Instance<'_>, task: Task, answer: Answer) -> Moved
     requires memory { HasMemory (code_in instance.old) }
     requires inside { PokesInside (length (store_in instance.old).memory) (answer_of answer).pokes }
     ensures comes { (w : Program) (l : PlainLeft) (supply : MailSupply) (left_then : ℕ) → PlaceFits w
         (place_in (exports_of w.source) w.plan.area l (store_in instance.old) (waits_in instance.old) (Stage.Answering task answer))
         → ComesFrom w (place_in (exports_of w.source) w.plan.area l (store_in instance.old) (waits_in instance.old) (Stage.Answering task answer)) left_then 0 result supply
         supply l (store_in instance.new) (waits_in instance.new) }
+    ensures stage { result.stage ≡ stage_told task answer.said }
     ensures pauses { PausesSo result }
     ensures code { code_in instance.new ≡ code_in instance.old }
 {

@@ -10,29 +10,10 @@ use Rattle.strand_laws.specs.Strands.{strand_at}
 use Rattle.strand_laws.specs.StrandNotes.{OnStory}
 use Rattle.strand_laws.specs.StrandWorld.{StrandsInWorld, strand_program}
 use Rattle.strand_laws.specs.ToldStrands.{ProgramTeller, StrandTeller, having_told, told_on}
-use Rattle.strand_laws.specs.Weaving.{Dues, HasTurn, now_behind}
-use Rattle.strand_laws.specs.Woven.{Thread, Told}
+use Rattle.strand_laws.specs.Weaving.{HasTurn}
+use Rattle.strand_host.specs.Standing.{dues_of_strands, now_told}
 
 -- ---- whose turn it is
-
--- the strand whose turn goes on behind what was told, if one does
-abbrev pub now_told : List Told → Option ℕ
-now_told [] = None
-now_told (t ∷ []) = now_behind t.strand t.note.event
-now_told (t ∷ u ∷ ts) = now_told (u ∷ ts)
-
--- there is something where it hasn't ended
-abbrev pub unless_over : Bool → Option (Unit {0})
-unless_over true = None
-unless_over false = Some tt
-
--- a strand as others know it: when it is due, and whether it has ended
-abbrev pub as_due : StrandTeller → Thread (Unit {0})
-as_due s = record { due = s.due; at = unless_over s.has_ended }
-
--- the same of all strands
-abbrev pub dues_of_strands : List StrandTeller → Dues
-dues_of_strands ss = map as_due ss
 
 -- The program hasn't ended, and it is the turn of a strand that was due at this tick: of the one whose turn goes on, or where none does, of the one that
 -- is due first.

@@ -4,7 +4,7 @@ use Rattle.pause_host.specs.Mailing.{awaits_in, latest, mail_supply}
 use Rattle.pause_host.specs.Views.{lines_in}
 use Rattle.pause_host.specs.Hosting.{MayAsk}
 use Rattle.pause_host.specs.Moves.{CallComes, ComesFrom, NextFrom, NextPauses}
-use Rattle.pause_host.specs.Moves.{NextStops}
+use Rattle.pause_host.specs.Moves.{NextStarts, NextStops}
 use Rattle.pause_host.proofs.running.told.Goals as goal
 
 pub returns-in-Told-clause-comes : goal.returns-in-Told-clause-comes
@@ -39,3 +39,9 @@ returns-in-Told-clause-stops g c = λ stops. subst NextStops c.in-Told.is stops
 
 pub returns-in-Calls-clause-stops : goal.returns-in-Calls-clause-stops
 returns-in-Calls-clause-stops g c = λ stops. absurd (subst NextStops c.in-Calls.is stops)
+
+pub returns-in-Calls-clause-starts : goal.returns-in-Calls-clause-starts
+returns-in-Calls-clause-starts g c = λ starts. c.called.ensures.starts (subst NextStarts c.in-Calls.is starts)
+
+pub returns-in-Told-clause-starts : goal.returns-in-Told-clause-starts
+returns-in-Told-clause-starts g c = λ starts. absurd (subst NextStarts c.in-Told.is starts)
