@@ -16,7 +16,8 @@ use Rattle.strand_laws.proofs.StrandNotes.{turn_begins}
 use Rattle.strand_host.specs.declared.turn_taking.Stage.{Stage}
 use Rattle.strand_host.specs.declared.turn_taking.Stage.TheVariants.{Between, Telling}
 use Rattle.strand_host.specs.StrandStanding.{AllStrandsStart, Hosted, IsHosted, StrandsStandAt, StrandsStanding}
-use Rattle.strand_host.specs.StrandTelling.{IsDueThen, IsToldSo, now_told}
+use Rattle.strand_host.specs.Standing.{now_told}
+use Rattle.strand_host.specs.StrandTelling.{IsDueThen, IsToldSo}
 use Rattle.strand_host.proofs.StrandOrder.{chosen_next, none_goes_on}
 
 -- who is due is there

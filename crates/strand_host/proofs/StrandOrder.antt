@@ -14,7 +14,8 @@ use Rattle.strand_laws.specs.StrandWorld.{StrandLine, StrandsInWorld}
 use Rattle.strand_laws.specs.ToldStrands.{EndsOnce, IsDue, IsDueNext, ProgramTeller, StrandTeller, TellsStrandTurn, TellsStrands, having_told, starting, told_on}
 use Rattle.strand_laws.specs.Weaving.{EndNoTurn, HasTurn, IsDueFirst, due_in, is_ready, now_behind}
 use Rattle.strand_laws.specs.Woven.{Told, told_by}
-use Rattle.strand_host.specs.StrandTelling.{HasDueTurn, IsDueThen, as_due, dues_of_strands, now_told, unless_over}
+use Rattle.strand_host.specs.Standing.{as_due, dues_of_strands, now_told, unless_over}
+use Rattle.strand_host.specs.StrandTelling.{HasDueTurn, IsDueThen}
 
 -- ---- the strand that goes on
 

@@ -32,7 +32,8 @@ use Rattle.strand_host.specs.declared.turn_taking.Stage.{Stage}
 use Rattle.strand_host.specs.declared.turn_taking.Stage.TheVariants.{Between, Showing, Telling}
 use Rattle.strand_host.specs.StrandCalls.{TakesStrandCall}
 use Rattle.strand_host.specs.StrandStanding.{Hosted, IsHosted, StrandsMeetMore, StrandsStandAt, StrandsStanding, TellsStrandLine, shown_lines, stage_behind}
-use Rattle.strand_host.specs.StrandTelling.{HasDueTurn, IsDueThen, IsToldSo, TellsStrandNote, as_due, dues_of_strands, now_told, unless_over}
+use Rattle.strand_host.specs.Standing.{as_due, dues_of_strands, now_told, unless_over}
+use Rattle.strand_host.specs.StrandTelling.{HasDueTurn, IsDueThen, IsToldSo, TellsStrandNote}
 use Rattle.strand_host.proofs.StrandOrder.{first_is, none_goes_on, turn_some}
 
 -- ---- small facts

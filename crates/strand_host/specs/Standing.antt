@@ -13,7 +13,7 @@ use Rattle.wa_model.specs.Store.{Store}
 use Rattle.world_model.specs.World.{ends_turn, is_end}
 use Rattle.host_laws.specs.Stretch.{IsSpent, Stretch, is_over, meeting}
 use Rattle.strand_laws.specs.StrandNotes.{OnStory}
-use Rattle.strand_laws.specs.StrandWorld.{HeldStrands, PokesApart, StrandsInWorld}
+use Rattle.strand_laws.specs.StrandWorld.{HeldStrands, StrandsInWorld}
 use Rattle.strand_laws.specs.Strands.{Strand, StrandProgram, beginnings, first_outcomes, held_loom, held_starts, held_wakes, outcomes_at, plan_of, strand_at}
 use Rattle.strand_laws.specs.ToldStrands.{ProgramTeller, StrandTeller, having_told, met_and, starting, told_on}
 use Rattle.strand_laws.specs.Weaving.{Dues, HasTurn, IsDueFirst, is_ready, now_behind}
@@ -285,17 +285,17 @@ NoTurnIsLeft =
 abbrev pub TurnIsOnStory : Type 0
 TurnIsOnStory =
     (g : StrandsInWorld) (t : ProgramTeller) (left k due : ℕ) (in_start : Bool) (ready : List Note) (h : Held) (ts : List (Thread Held)) → InTurn g t left k due in_start ready h ts
-    → t.has_ended ≡ false → PokesApart g.program.strands 0 (met_and t.strands []) → OnStory g t
+    → t.has_ended ≡ false → OnStory g t
 
 -- between turns,
 abbrev pub BetweenIsOnStory : Type 0
 BetweenIsOnStory =
     (g : StrandsInWorld) (t : ProgramTeller) (left : ℕ) (s : Store) (ts : List (Thread Held)) (k : ℕ) → BetweenTurns g t left s ts → IsDueFirst (dues_of_strands t.strands) k
-    → t.has_ended ≡ false → PokesApart g.program.strands 0 (met_and t.strands []) → OnStory g t
+    → t.has_ended ≡ false → OnStory g t
 
 -- and at the end.
 abbrev pub WholeIsOnStory : Type 0
-WholeIsOnStory = (g : StrandsInWorld) (t : ProgramTeller) → WholeStory g t → t.has_ended ≡ true → PokesApart g.program.strands 0 (met_and t.strands []) → OnStory g t
+WholeIsOnStory = (g : StrandsInWorld) (t : ProgramTeller) → WholeStory g t → t.has_ended ≡ true → OnStory g t
 
 -- A pause that comes puts its strand off to a tick in range.
 abbrev pub DueFits : Type 0

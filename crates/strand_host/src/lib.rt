@@ -17,6 +17,8 @@
 //!
 //! - `plan`, `setup`: plans with strands, and how they are set up.
 //! - `program`, `strands`, `turns`: `StrandProgram`, where its strands stand, and a strand's next event.
+//! - `standings`: the laws of where a program stands in the run of its woven strands (`specs/Standing.antt`): in the midst of a strand's turn,
+//!   between two turns, or at the end, whatever the outcomes of later calls.
 //! - `weaver`, `turn_taking`: programs with strands as a host meets them, and how they take turns.
 //! - `hosted`, `host`, `laws`: `StrandProgram` as such a program, `StrandHost`, and its law.
 #![tactic(auto)]
@@ -27,6 +29,7 @@ mod laws;
 mod plan;
 mod program;
 mod setup;
+mod standings;
 mod strands;
 mod turn_taking;
 mod turns;
@@ -37,4 +40,7 @@ pub use host::StrandHost;
 pub use laws::told_strand_lines_begin_a_world;
 pub use plan::{StrandFault, StrandPart, StrandPlan};
 pub use program::StrandProgram;
+pub use standings::{
+    dues_fit, last_moves_lead, standings_are_on_story, turns_begin, turns_end, turns_go_on,
+};
 pub use turn_taking::StrandLine;
