@@ -1,5 +1,5 @@
 -- How many events begin among programs with strands: fewer than 2^40.
-use Rattle.std.proofs.Common.{arith, ◌≡◌, ◌≤◌, ◌<◌, ℕ, zero, suc, ◌+◌, ◌*◌, ◌^◌, List, [], ◌∷◌, ◌++◌, length, length-append, map, Option, Some, None, Bool, true, false, slice_get, slice_set, refl, sym, ap, ◌∙◌}
+use Rattle.std.proofs.Common.{arith, ◌≡◌, ◌≤◌, ◌<◌, ℕ, zero, suc, ◌+◌, ◌*◌, ◌^◌, List, [], ◌∷◌, ◌++◌, length, length-append, map, Option, Some, Bool, true, false, slice_get, slice_set, refl, ap}
 use Rattle.std.proofs.lemmas.Option.{slice_get_within}
 use Rattle.wa_model.specs.declared.answers.Detach.{Detach}
 use Rattle.wa_model.specs.Blocking.{Note}
@@ -8,10 +8,9 @@ use Rattle.world_laws.proofs.Places.{item}
 use Rattle.event_order.specs.declared.turns.Turn.{Turn}
 use Rattle.strand_laws.specs.StrandWorld.{StrandLine, StrandsInWorld}
 use Rattle.strand_laws.specs.ToldStrands.{EndsOnce, ProgramTeller, TellsStrandTurn, TellsStrands, having_told, met_and, starting, told_on}
-use Rattle.strand_laws.specs.Woven.{Told, told_by}
+use Rattle.strand_laws.specs.Woven.{told_by}
 use Rattle.strand_laws.proofs.StoryLengths.{most_told, story_length}
-use Rattle.strand_host.specs.declared.turn_taking.Stage.{Stage}
-use Rattle.strand_host.specs.declared.turn_taking.Stage.TheVariants.{Between, Showing, Telling}
+use Rattle.strand_host.specs.declared.turn_taking.Stage.TheVariants.{Between}
 use Rattle.strand_host.specs.StrandStanding.{Hosted, IsPlace, StrandsStanding, stage_behind}
 use Rattle.strand_host.specs.StrandTelling.{IsToldSo}
 use Rattle.wa_model.specs.Outside.{Event, answered, called, ended, parked, paused, returned, shown}
@@ -87,9 +86,9 @@ pub few_events : {X : Type 0} (follows : X → StrandsInWorld → ProgramTeller 
 few_events follows due_at memory so programs detaches ds lines h ds' s few =
     let many = events_told programs detaches ds h.begun lines s.tellers ds' s.at in
     let each = few_of_each s.tellers (λ i t et.
-        let g = item programs i (omega (arith, slice_get_within s.tellers i t et, s.wide)) in
-        let x = item h.programs i (omega (arith, slice_get_within s.tellers i t et, s.wide, s.as_many)) in
-        few_notes g.0 t (due_at x.0) (so x.0 g.0 t (s.each i g.0 t x.0 g.1 et x.1).follow)) in
+    let g = item programs i (omega (arith, slice_get_within s.tellers i t et, s.wide)) in
+    let x = item h.programs i (omega (arith, slice_get_within s.tellers i t et, s.wide, s.as_many)) in
+    few_notes g.0 t (due_at x.0) (so x.0 g.0 t (s.each i g.0 t x.0 g.1 et x.1).follow)) in
     omega (arith, many, each, few, s.wide, s.as_many)
 
 -- ---- places

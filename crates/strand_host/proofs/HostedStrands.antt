@@ -1,8 +1,7 @@
 -- A program with strands, as its host meets it.
-use Rattle.std.proofs.Common.{arith, ◌≡◌, ◌<◌, ◌≤◌, ◌⊎◌, inl, inr, ℕ, zero, suc, List, [], ◌∷◌, length, Option, Some, None, Bool, true, false, slice_get, refl, sym, ap, ◌∙◌}
+use Rattle.std.proofs.Common.{arith, ◌≡◌, ◌<◌, ◌≤◌, ◌⊎◌, inl, inr, ℕ, zero, suc, List, [], ◌∷◌, Option, Some, None, Bool, true, false, slice_get, refl, sym, ap}
 use Rattle.std.specs.Prelude.{nat_lt, if◌then◌else◌}
 use Rattle.std.proofs.lemmas.Bool.{cases_lt, lt-ltb, ltb-true}
-use Rattle.std.proofs.lemmas.Option.{same_Some}
 use Rattle.wa_model.specs.Outside.{Event}
 use Rattle.world_model.specs.World.{Device}
 use Rattle.event_order.specs.declared.shows.Show.{Show}
@@ -14,8 +13,8 @@ use Rattle.strand_host.specs.declared.program.State.TheVariants.{Between, Failed
 use Rattle.strand_host.specs.declared.program.StrandProgram.{StrandProgram}
 use Rattle.strand_host.specs.StrandHosts.{AreSetUpStrands, due_by, due_in, follows, least_due, sooner_due}
 use Rattle.strand_host.specs.StrandPrograms.{FollowsStrands, GoesOnStrands, IsDueThen, IsFirstDue}
-use Rattle.strand_host.specs.StrandStanding.{AllStrandsStart, IsHosted}
-use Rattle.strand_host.specs.StrandTelling.{IsToldSo, TellsStrandNote}
+use Rattle.strand_host.specs.StrandStanding.{AllStrandsStart}
+use Rattle.strand_host.specs.StrandTelling.{TellsStrandNote}
 use Rattle.strand_host.proofs.FollowsTold.{follows_told_so}
 
 -- ---- the least tick

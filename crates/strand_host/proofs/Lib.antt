@@ -1,5 +1,6 @@
 pub mod Events
 pub mod FewStrandEvents
+pub mod FollowsTold
 pub mod HostedStrands
 pub mod Rows
 pub mod StandingEnds

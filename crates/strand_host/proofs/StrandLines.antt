@@ -1,5 +1,5 @@
 -- What a host of strands has told, as a beginning of a world's run.
-use Rattle.std.proofs.Common.{arith, ◌≡◌, ◌<◌, ℕ, List, ◌++◌, length, map, Option, Some, None, Bool, true, get_or, slice_get, refl, sym, ap, ◌∙◌, subst, append_assoc}
+use Rattle.std.proofs.Common.{arith, ◌≡◌, ℕ, List, ◌++◌, Option, Some, None, true, get_or, slice_get, refl, ap, ◌∙◌, subst, append_assoc}
 use Rattle.std.specs.Prelude.{MatchOption}
 use Rattle.std.specs.List.{AllZip}
 use Rattle.std.specs.Option.{option_map}
@@ -22,7 +22,7 @@ use Rattle.strand_host.specs.declared.turn_taking.Stage.{Stage}
 use Rattle.strand_host.specs.declared.turn_taking.Stage.TheVariants.{Between, Showing, Telling}
 use Rattle.strand_host.specs.declared.turn_taking.StrandLine.{StrandLine as LineValue}
 use Rattle.strand_host.specs.declared.turn_taking.StrandTurns.{StrandTurns}
-use Rattle.strand_host.specs.StrandHosts.{StrandHostNext, StrandHostTold, ToldStrandLinesBegin, due_in, follows}
+use Rattle.strand_host.specs.StrandHosts.{StrandHostNext, ToldStrandLinesBegin, due_in, follows}
 use Rattle.strand_host.specs.StrandPrograms.{memory_of}
 use Rattle.strand_host.specs.StrandStanding.{AllStrandsTold, Hosted, StrandsStanding, TellsNextLine, hosted_of, shown_lines}
 use Rattle.strand_host.specs.StrandTelling.{IsDueThen, IsToldSo}
@@ -61,7 +61,7 @@ module _ (gs : List StrandsInWorld) (detaches : List Detach) (ds : List Device) 
       let x = item h.programs k (omega (arith, within, s.wide, s.as_many)) in
       let so = told_so stage s k g.0 t x.0 g.1 (slice_get-get_or s.tellers k d within) x.1 in
       over_then t (due_in x.0) so.due_is (λ due e.
-          ended k due (ap (λ (l : List (Option ℕ)). slice_get l k) s.dues ∙ slice_get-map due_in h.programs k ∙ ap (option_map due_in) x.1 ∙ ap (λ (o : Option ℕ). Some o) e))
+      ended k due (ap (λ (l : List (Option ℕ)). slice_get l k) s.dues ∙ slice_get-map due_in h.programs k ∙ ap (option_map due_in) x.1 ∙ ap (λ (o : Option ℕ). Some o) e))
 
   abbrev Begins : Type 0
   Begins = (more : List StrandLine) × (last : List Device) × ProtocolStrandWorld gs detaches ds (lines ++ more) last

@@ -1,12 +1,11 @@
 -- A program's strand tells one note more of its turn.
-use Rattle.std.proofs.Common.{arith, ◌≡◌, ◌⊎◌, inl, inr, ℕ, suc, ◌+◌, List, [], ◌∷◌, ◌++◌, length, map, Option, Some, None, Bool, true, false, if◌then◌else◌, nat_eq, slice_get, slice_set, refl, sym, ap, ◌∙◌, subst, length-set, append_assoc, append-nil}
+use Rattle.std.proofs.Common.{arith, ◌≡◌, ◌⊎◌, inl, inr, ℕ, suc, ◌+◌, List, [], ◌∷◌, ◌++◌, map, Option, Some, None, Bool, true, false, if◌then◌else◌, nat_eq, slice_get, slice_set, refl, sym, ap, ◌∙◌, subst, length-set, append_assoc, append-nil}
 use Rattle.std.specs.Prelude.{is_none, not}
 use Rattle.std.specs.Option.{is_some}
 use Rattle.std.proofs.lemmas.Bool.{cases_eq, eq-eqb, ne_eqb}
 use Rattle.std.proofs.lemmas.List.{map-set}
 use Rattle.std.proofs.lemmas.Option.{same_Some}
 use Rattle.wa_model.specs.declared.answers.Detach.{Detach}
-use Rattle.wa_model.specs.declared.events.End.{End}
 use Rattle.wa_model.specs.Outside.{AnswerLine, Event, answered, called, ended, parked, paused, returned, shown}
 use Rattle.wa_model.specs.Plan.{Outcome}
 use Rattle.wa_model.specs.Blocking.{Note}
@@ -21,7 +20,7 @@ use Rattle.many_host.specs.Calls.{devices_of, faults_of}
 use Rattle.many_host.specs.Standing.{looks_at}
 use Rattle.many_host.specs.Telling.{supply}
 use Rattle.strand_laws.specs.StrandNotes.{StrandCalls, TellsOnStrands}
-use Rattle.strand_laws.specs.StrandWorld.{HeldStrands, StrandLine, StrandsInWorld, looks_if, strand_in, strand_program}
+use Rattle.strand_laws.specs.StrandWorld.{StrandLine, StrandsInWorld, looks_if, strand_in, strand_program}
 use Rattle.strand_laws.specs.Strands.{strand_at}
 use Rattle.strand_laws.specs.ToldStrands.{IsRest, ProgramTeller, StrandTeller, TellsStrands, having_told, line_of, met_and, told_on}
 use Rattle.strand_laws.specs.Weaving.{Dues, EndNoTurn, HasTurn, IsDueFirst, now_behind}
@@ -29,11 +28,11 @@ use Rattle.strand_laws.specs.Woven.{Told, told_by}
 use Rattle.strand_laws.proofs.Closing.{Closes, story_closes}
 use Rattle.strand_laws.proofs.StrandNotes.{turn_ends, turn_goes_on}
 use Rattle.strand_host.specs.declared.turn_taking.Stage.{Stage}
-use Rattle.strand_host.specs.declared.turn_taking.Stage.TheVariants.{Between, Showing, Telling}
+use Rattle.strand_host.specs.declared.turn_taking.Stage.TheVariants.{Telling}
 use Rattle.strand_host.specs.StrandCalls.{TakesStrandCall}
 use Rattle.strand_host.specs.StrandStanding.{Hosted, IsHosted, StrandsMeetMore, StrandsStandAt, StrandsStanding, TellsStrandLine, shown_lines, stage_behind}
 use Rattle.strand_host.specs.Standing.{as_due, dues_of_strands, now_told, unless_over}
-use Rattle.strand_host.specs.StrandTelling.{HasDueTurn, IsDueThen, IsToldSo, TellsStrandNote}
+use Rattle.strand_host.specs.StrandTelling.{IsDueThen, IsToldSo, TellsStrandNote}
 use Rattle.strand_host.proofs.StrandOrder.{first_is, none_goes_on, turn_some}
 
 -- ---- small facts
@@ -325,8 +324,8 @@ module _ {X : Type 0} (follows : X → StrandsInWorld → ProgramTeller → Type
         by (inl is) (inr other) =
             kept
             (same_Some u' u (
-              sym eu' ∙ ap (λ (v : ProgramTeller). slice_get v.strands k) (goes_to is) ∙ set_there now.strands strand k mine other
-              ∙ ap (λ (v : ProgramTeller). slice_get v.strands k) (sym (was is)) ∙ eu
+            sym eu' ∙ ap (λ (v : ProgramTeller). slice_get v.strands k) (goes_to is) ∙ set_there now.strands strand k mine other
+            ∙ ap (λ (v : ProgramTeller). slice_get v.strands k) (sym (was is)) ∙ eu
             )) (inr other)
         by (inl is) (inl same) =
             let u_is : u ≡ n.s = same_Some u n.s (sym eu ∙ ap (λ (v : ProgramTeller). slice_get v.strands k) (was is) ∙ ap (slice_get now.strands) same ∙ n.there) in

@@ -1,5 +1,5 @@
 -- Several programs with strands of a world, as they are held between two lines.
-use Rattle.std.specs.Prelude.{◌≡◌, ◌≤◌, ◌<◌, ℕ, suc, List, [], ◌∷◌, ◌++◌, length, map, drop, Option, Some, None, Bool, true, false, if◌then◌else◌, nat_eq, MatchOption, slice_get}
+use Rattle.std.specs.Prelude.{◌≡◌, ◌≤◌, ◌<◌, ℕ, suc, List, [], ◌∷◌, ◌++◌, length, map, drop, Option, Some, Bool, if◌then◌else◌, nat_eq, MatchOption, slice_get}
 use Rattle.wa_model.specs.declared.answers.Detach.{Detach}
 use Rattle.wa_model.specs.Outside.{Event, paused, ended}
 use Rattle.wa_model.specs.Plan.{Outcome}

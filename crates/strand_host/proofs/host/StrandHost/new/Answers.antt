@@ -1,4 +1,3 @@
-use Rattle.std.proofs.Common.{ap}
 use Rattle.strand_host.proofs.HostedStrands.{all_start}
 use Rattle.strand_host.proofs.host.StrandHost.new.Goals as goal
 

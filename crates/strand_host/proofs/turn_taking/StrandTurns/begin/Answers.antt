@@ -1,4 +1,4 @@
-use Rattle.std.proofs.Common.{◌+◌, ◌<◌, ◌^◌, arith, ap, inr, refl, sym, ◌∙◌, subst, length, List, Option, ℕ}
+use Rattle.std.proofs.Common.{◌+◌, arith, ap, inr, refl, ◌∙◌, subst, length, List, Option, ℕ}
 use Rattle.event_order.specs.Dues.{HaveEnded, IsLeast}
 use Rattle.many_host.proofs.Counts.{are_left, left_began, left_when_begun}
 use Rattle.strand_host.specs.StrandStanding.{hosted_of}
