@@ -12,7 +12,7 @@ use Rattle.event_order.specs.declared.turns.Turn.{Turn}
 use Rattle.event_order.specs.Left.{Counted}
 use Rattle.event_order.specs.Looks.{IsNextShow, look_of, looks_of}
 use Rattle.many_host.specs.Standing.{looks_at}
-use Rattle.strand_laws.specs.StrandWorld.{StrandLine, StrandsInWorld}
+use Rattle.strand_laws.specs.StrandWorld.{StrandLine, StrandsInWorld, strand_in}
 use Rattle.strand_laws.specs.ToldStrands.{ProgramTeller, StrandTeller, TellsStrands, line_of}
 use Rattle.strand_host.specs.declared.turn_taking.Stage.TheVariants.{Between, Showing}
 use Rattle.strand_host.specs.declared.turn_taking.StrandLine.{StrandLine as LineValue}
@@ -78,9 +78,10 @@ module _ {X : Type 0} (follows : X → StrandsInWorld → ProgramTeller → Type
 
   pub shown_line : (x : X) (place next : ℕ) (look : Show) (e : Event) (cs : List Counted) → slice_get h.programs turn.program ≡ Some x → next ≡ place + 1
       → IsNextShow turn.program h.shows from place → slice_get h.shows place ≡ Some look → e ≡ shown look.at (bytes_shown (memory x) (record { at = look.at; len = look.len }))
-      → TellsStrandLine follows due_at memory programs detaches ds lines s.tellers cs cs (line_of turn.due turn.program 0 e) h ds' (Showing turn next)
+      → TellsStrandLine follows due_at memory programs detaches ds lines s.tellers cs cs (record { tick = turn.due; program = turn.program; strand = 0; event = e }) h ds' (Showing turn next)
   shown_line x place next look e cs there next_is is look_there e_is =
-      record {
+      subst (λ (n : ℕ). TellsStrandLine follows due_at memory programs detaches ds lines s.tellers cs cs (record { tick = turn.due; program = turn.program; strand = n; event = e }) h ds' (Showing turn next))
+      (ap (strand_in 0) e_is) (record {
         stands = record {
           tellers = s.tellers;
           wide = s.wide;
@@ -93,7 +94,7 @@ module _ {X : Type 0} (follows : X → StrandsInWorld → ProgramTeller → Type
         met = [];
         meets = meets_none turn.program _ s.tellers;
         takes = shown_takes programs h.programs x turn.due turn.program e look.at _ cs s.as_many there e_is;
-      }
+      })
 
 -- ---- whether there is one
 

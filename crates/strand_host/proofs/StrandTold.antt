@@ -358,15 +358,16 @@ module _ {X : Type 0} (follows : X → StrandsInWorld → ProgramTeller → Type
 
   pub line_told : (x' : X) (k : ℕ) (e : Event) (faults faults' : List ℕ) (ds'' : List Device)
       → ((g : StrandsInWorld) (t : ProgramTeller) → follows x g t → t.has_ended ≡ false → TellsStrandNote (follows x' g) (memory x') g t k e ds' faults ds'' faults')
-      → (due : Option ℕ) (b : Bool) (stage : Stage) → due ≡ due_at x' → b ≡ is_none due → stage ≡ stage_behind turn b e → (old new : List Counted) → devices_of old ≡ ds' → faults_of old ≡ faults
-      → devices_of new ≡ ds'' → faults_of new ≡ faults'
-      → TellsStrandLine follows due_at memory programs detaches ds lines s.tellers old new (line_of turn.due i k e)
+      → (due : Option ℕ) (b : Bool) (stage : Stage) (told : ℕ) → due ≡ due_at x' → b ≡ is_none due → stage ≡ stage_behind turn b e → told ≡ strand_in k e → (old new : List Counted)
+      → devices_of old ≡ ds' → faults_of old ≡ faults → devices_of new ≡ ds'' → faults_of new ≡ faults'
+      → TellsStrandLine follows due_at memory programs detaches ds lines s.tellers old new (record { tick = turn.due; program = i; strand = told; event = e })
       (record { programs = slice_set h.programs i x'; dues = slice_set h.dues i due; detaches = h.detaches; shows = h.shows; begun = h.begun }) ds'' stage
-  line_told x' k e faults faults' ds'' tells due b stage due_is b_is stage_is old new d f d' f' =
+  line_told x' k e faults faults' ds'' tells due b stage told due_is b_is stage_is told_is old new d f d' f' =
       let n = tells on.g now held.follow refl in
       let same : k ≡ strand = same_strand k n.turn in
-      subst (λ (j : ℕ). TellsStrandLine follows due_at memory programs detaches ds lines s.tellers old new (line_of turn.due i j e)
-      (record { programs = slice_set h.programs i x'; dues = slice_set h.dues i due; detaches = h.detaches; shows = h.shows; begun = h.begun }) ds'' stage) (sym same)
+      subst (λ (j : ℕ). TellsStrandLine follows due_at memory programs detaches ds lines s.tellers old new (record { tick = turn.due; program = i; strand = j; event = e })
+      (record { programs = slice_set h.programs i x'; dues = slice_set h.dues i due; detaches = h.detaches; shows = h.shows; begun = h.begun }) ds'' stage)
+      (sym (told_is ∙ ap (λ (j : ℕ). strand_in j e) same))
       (line_more x' e faults faults' ds'' (subst (λ (j : ℕ). TellsStrandNote (follows x' on.g) (memory x') on.g now j e ds' faults ds'' faults') same n) due b stage due_is b_is stage_is old new d f d' f')
 
 -- by what is known of the devices

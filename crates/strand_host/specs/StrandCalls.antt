@@ -10,14 +10,13 @@ use Rattle.many_host.specs.Calls.{IsShown, devices_of, faults_of}
 use Rattle.many_host.specs.Telling.{supply}
 use Rattle.strand_laws.specs.Strands.{strand_at}
 use Rattle.strand_laws.specs.StrandWorld.{StrandLine, StrandsInWorld, strand_program}
-use Rattle.strand_laws.specs.ToldStrands.{line_of}
 use Rattle.strand_host.specs.declared.turn_taking.Stage.{Stage}
 use Rattle.strand_host.specs.declared.turn_taking.Stage.TheVariants.{Between, Telling, Showing}
 use Rattle.strand_host.specs.declared.turn_taking.StrandLine.{StrandLine as LineValue}
 
 -- a line of a world of strands, as the program has it
 abbrev pub strand_line_of : LineValue → StrandLine
-strand_line_of l = line_of l.tick l.program l.strand (event_of l.event)
+strand_line_of l = record { tick = l.tick; program = l.program; strand = l.strand; event = event_of l.event }
 
 -- Where the line tells a new call, that met this outcome, of the devices or of the strand's answer lines, and left these devices and
 -- counts; nothing else met one, or changed any.

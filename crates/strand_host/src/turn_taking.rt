@@ -7,7 +7,7 @@ ghost use Rattle.device_port.specs.Listed.{of_all};
 ghost use Rattle.event_order.specs.Dues.{HaveEnded};
 ghost use Rattle.host_laws.specs.Supplies.{IsLent, RisesAtMostOne};
 ghost use Rattle.many_host.specs.Calls.{AreLeft, left_at};
-ghost use Rattle.strand_laws.specs.StrandWorld.{StrandLine as WorldLine, StrandsInWorld};
+ghost use Rattle.strand_laws.specs.StrandWorld.{StrandLine as WorldLine, StrandsInWorld, strand_in as told_in};
 ghost use Rattle.strand_host.specs.StrandCalls.{BegunNext, strand_line_of};
 ghost use Rattle.strand_host.specs.StrandStanding.{AllStrandsStart, AreInRange, AreLooksOut, AreTelling, StrandsStanding, TellsNextLine, TellsStrandLine, hosted_of, stage_behind as behind};
 
@@ -152,10 +152,11 @@ impl<T: Weaver + Drop> StrandTurns<T> {
         let due = self.programs[turn.program].due();
         self.stage = stage_behind(turn, due.is_none(), &told.event);
         self.dues[turn.program] = due;
+        let strand = strand_in(told.strand, &told.event);
         Ok(StrandLine {
             tick: turn.due,
             program: turn.program as u32,
-            strand: told.strand,
+            strand,
             event: told.event,
         })
     }
@@ -205,6 +206,21 @@ impl<T: Weaver + Drop> StrandTurns<T> {
             strand: 0,
             event,
         }))
+    }
+}
+
+// Memory that is shown counts as told by the first strand.
+fn strand_in(strand: u32, event: &Event) -> u32
+    ensures { result ≡ told_in strand (event_of event.now) }
+{
+    match event {
+        Event::Shown { .. } => 0,
+        Event::Called(_) => strand,
+        Event::Answered(_) => strand,
+        Event::Paused { .. } => strand,
+        Event::Parked { .. } => strand,
+        Event::Returned { .. } => strand,
+        Event::Ended(_) => strand,
     }
 }
 

@@ -18,8 +18,8 @@ returns-clause-told g c = λ gs detaches ds lines s.
     let again : c.index.result.now ≡ c.advance.new.self = same_Some _ _ (sym (stands_at (slice_set xs i c.advance.new.self) i c.index.result.now within c.index.ensures) ∙ put) in
     line_told g.T.Weaver.follows g.T.Weaver.due_at g.T.Weaver.memory g.met.T.Weaver.told_so gs detaches ds lines (hosted_of c.args.self.now) _ c.args.turn s c.index_mut.result.now there
     c.advance.new.self c.in_ok-told.told.strand (event_of c.in_ok-told.told.event) _ _ _ c.in_ok-told.ensures.told
-    c.due-due.result c.is_none.result c.stage_behind-self.result (c.due-due.ensures ∙ ap g.T.Weaver.due_at again) (none_of c.due-due.result c.is_none.result c.is_none.ensures)
-    c.stage_behind-self.ensures
+    c.due-due.result c.is_none.result c.stage_behind-self.result c.strand_in-strand.result (c.due-due.ensures ∙ ap g.T.Weaver.due_at again) (none_of c.due-due.result c.is_none.result c.is_none.ensures)
+    c.stage_behind-self.ensures c.strand_in-strand.ensures
     _ _
     (counted_devices (λ z. (goal.Device-dyn g z).seen z.1) (λ z. (goal.Device-dyn g z).faults z.1) c.args.devices.now)
     (counted_faults (λ z. (goal.Device-dyn g z).seen z.1) (λ z. (goal.Device-dyn g z).faults z.1) c.args.devices.now)
