@@ -2,6 +2,7 @@ pub mod Events
 pub mod FewStrandEvents
 pub mod FollowsTold
 pub mod HostedStrands
+pub mod PlainMoves
 pub mod Rows
 pub mod StandingEnds
 pub mod StandingGoes
@@ -15,8 +16,10 @@ pub mod StandingThreads
 pub mod StandingTurns
 pub mod StandingWoven
 pub mod StoresKept
+pub mod StrandBeginnings
 pub mod StrandBegun
 pub mod StrandLines
 pub mod StrandOrder
+pub mod StrandPlaces
 pub mod StrandShown
 pub mod StrandTold

@@ -4,5 +4,6 @@ pub mod StrandHosts
 pub mod StrandMoves
 pub mod StrandPlans
 pub mod StrandPrograms
+pub mod StrandSetups
 pub mod StrandStanding
 pub mod StrandTelling

@@ -98,7 +98,7 @@ overlaps_one earlier a = list_any (λ (b : Area). areas_overlap b a) earlier
 -- the first of these areas that shares a byte with an earlier one, or with one of those before, where the first has this number
 abbrev pub first_overlap : (before : List Area) → (number : ℕ) → List Area → Option ℕ
 first_overlap before i [] = None
-first_overlap before i (a ∷ as) = if overlaps_one before a then Some i else first_overlap (before ++ a ∷ []) (suc i) as
+first_overlap before i (a ∷ rest) = if overlaps_one before a then Some i else first_overlap (before ++ a ∷ []) (suc i) rest
 
 -- no two areas share a byte
 abbrev pub AreasApart : List Area → Type 0

@@ -33,7 +33,7 @@ use Rattle.pause_host.specs.Moves.{CallComes, EndsAt, HasShortPokes, IsSetting}
 use Rattle.pause_host.specs.Programs.{BindsAs, source_of}
 use Rattle.pause_host.specs.Views.{is_starting, left_of, lines_in, place_in, starts}
 use Rattle.strand_laws.specs.StrandWorld.{StrandsInWorld, strand_program}
-use Rattle.strand_laws.specs.Strands.{held_starts, held_wakes, plan_of, strand_at}
+use Rattle.strand_laws.specs.Strands.{held_wakes, plan_of, strand_at}
 use Rattle.strand_laws.specs.ToldStrands.{ProgramTeller, StrandTeller, starting}
 use Rattle.strand_laws.specs.Woven.{Thread, ends_strand}
 use Rattle.strand_host.specs.declared.plan.StrandFault.{StrandFault}
@@ -50,7 +50,7 @@ use Rattle.strand_host.specs.declared.strands.Then.{Then}
 use Rattle.strand_host.specs.declared.strands.Then.TheVariants.{EndsAll, EndsAlone, GoesOn, Pauses}
 use Rattle.strand_host.specs.StrandTelling.{TellsStrandNote}
 use Rattle.strand_host.specs.StrandPlans.{AllSetUp, AreasApart, FailsFirst, OverlapsFirst, parts_of, world_strands}
-use Rattle.strand_host.specs.Standing.{BetweenTurns, InTurn, LastMove, WholeStory, all_at_start}
+use Rattle.strand_host.specs.Standing.{BetweenTurns, InTurn, LastMove, WholeStory, all_at_start, is_in_start}
 
 -- ---- what an event leads to
 
@@ -125,7 +125,7 @@ AllEnded dues = (i due : ℕ) → slice_get dues i ≡ Some (Some due) → ⊥
 
 -- What holds of a strand that hasn't ended, wherever it stands.
 pub record IsStrand (g : StrandsInWorld) (i : ℕ) (setting : Setting) (s : Strand) (teller : StrandTeller) : Type 0 where
-  pub setting : IsSetting (world_strand g i) (set_to setting s.area)
+  pub is_set : IsSetting (world_strand g i) (set_to setting s.area)
   pub pokes : All HasShortPokes (lines_in s.left.answers.items)
   pub answers : teller.answers ≡ lines_in s.left.answers.items
   pub unfinished : teller.has_ended ≡ false
@@ -136,7 +136,7 @@ pub record WaitsWell (g : StrandsInWorld) (s : Strand) (h : Held) (low : ℕ) : 
       → place_in (exports_of g.program.source) s.area (left_of s.left) st waits s.stage ≡ stands (held_wakes st h).events (held_wakes st h).last
   pub fits : (st : Store) → StoreFits g.program.source st → low ≤ length st.memory → HeldFits g.program.source (held_wakes st h).last
   pub holds : (st : Store) → low ≤ length st.memory → HeldHolds s.area (held_wakes st h).last
-  pub behind_start : (st : Store) → held_starts (held_wakes st h).last ≡ false
+  pub behind_start : (st : Store) → is_in_start (held_wakes st h).last ≡ false
 
 -- A strand that isn't in its turn: it has ended, or waits.
 abbrev pub RowIs : StrandsInWorld → (i : ℕ) → Setting → (low : ℕ) → Option Strand → (due : Option ℕ) → StrandTeller → Thread Held → Type 0
@@ -197,7 +197,7 @@ pub record AtPlace (g : StrandsInWorld) (t : ProgramTeller) (x : Stock) (k : ℕ
   pub holds : HeldHolds s.area held
   pub notes : NotesFit g low ready held
   pub long : low ≤ length (store_held held).memory
-  pub behind_start : starts ≡ false → held_starts held ≡ false
+  pub behind_start : starts ≡ false → is_in_start held ≡ false
 
 -- the place of a strand's stage over an instance
 abbrev pub place_of : StrandsInWorld → Instance → Strand → Place

@@ -17,10 +17,16 @@
 //!
 //! - `plan`, `setup`: plans with strands, and how they are set up.
 //! - `program`, `strands`, `turns`: `StrandProgram`, where its strands stand, and a strand's next event.
-//! - `standings`: the laws of where a program stands in the run of its woven strands (`specs/Standing.antt`): in the midst of a strand's turn,
-//!   between two turns, or at the end, whatever the outcomes of later calls.
+//! - `standings`: the laws of where a program stands.
 //! - `weaver`, `turn_taking`: programs with strands as a host meets them, and how they take turns.
 //! - `hosted`, `host`, `laws`: `StrandProgram` as such a program, `StrandHost`, and its law.
+//!
+//! `specs/Standing.antt` says where the machine of woven strands is between two notes that are told: in the midst of a strand's turn, between
+//! two turns, or at the end; whatever the outcomes of later calls. Its laws (`standings.rt`) lead from one to the next, and to `OnStory`, from
+//! which a world of strands is told. `proofs/StandingMoves.antt` has what a strand's single move makes and where it leads,
+//! `proofs/StandingGoes.antt` that a strand's stretch up to the end of its turn is one of the woven machine, `proofs/StandingLed.antt` where that
+//! stands then. `specs/StrandTelling.antt` says what a program tells next, and what of it a host knows; `specs/StrandStanding.antt` where
+//! several stand.
 #![tactic(auto)]
 
 mod host;

@@ -1,7 +1,9 @@
 //! `StrandProgram`: a plan with strands over one instance, advanced from event to event.
 
 ghost use Rattle.std.specs.Prelude.{◌≡◌, ◌<◌, ◌≤◌, ◌+◌, ◌^◌, ℕ, List, IfOk, IsErr, Option, Some, None, false, true, length, slice_get};
-ghost use Rattle.std.specs.Option.{option_copied};
+ghost use Rattle.std.specs.Option.{option_copied, option_map};
+ghost use Rattle.interp.specs.Host.{memory_in};
+ghost use Rattle.strand_host.specs.StrandPrograms.{IsFirstDue, due_at};
 ghost use Rattle.wa_model.specs.View.{event_of};
 ghost use Rattle.wa_types.specs.View.{module_of};
 ghost use Rattle.world_model.specs.World.{bytes_shown};
@@ -11,8 +13,8 @@ ghost use Rattle.strand_laws.specs.StrandWorld.{StrandsInWorld};
 ghost use Rattle.strand_laws.specs.ToldStrands.{ProgramTeller};
 
 use crate::plan::{StrandFault, StrandPlan};
-use crate::setup::{Parted, parted};
-use crate::strands::{Going, Strand, StrandEvent, Then, then};
+use crate::setup::{Parted, all_parted};
+use crate::strands::{Going, Strand, StrandEvent, Then, leads_to};
 use crate::turns::{strand_event, unused};
 use device_port::Devices;
 use event_order::next_turn;
@@ -80,7 +82,7 @@ impl<'m> StrandProgram<'m> {
             steps_left,
             dues,
             strands,
-        } = parted(alloc, plan)?;
+        } = all_parted(alloc, plan)?;
         Ok(StrandProgram {
             valid,
             globals,
@@ -481,7 +483,7 @@ impl<'m> StrandProgram<'m> {
         ensures settles { Settles self.old instance.entry going (leads_to going.starts (event_of event)) self.new }
     {
         let strand = going.number;
-        let then = then(&event, going.starts);
+        let then = leads_to(&event, going.starts);
         self.settle(instance, going, then);
         StrandEvent { strand, event }
     }

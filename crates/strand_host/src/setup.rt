@@ -1,9 +1,9 @@
 //! A plan with strands, set up: the functions of each strand's entries, areas that are apart, and the strands at their start.
 
-ghost use Rattle.std.specs.Prelude.{◌≡◌, ◌<◌, ◌≤◌, ◌+◌, ◌^◌, ℕ, List, IfOk, IfErr, All, Ok, Err, length, map};
+ghost use Rattle.std.specs.Prelude.{◌≡◌, ◌<◌, ◌≤◌, ◌+◌, ◌^◌, ◌++◌, ◌∷◌, [], ℕ, List, IfOk, OnOk, All, length, map};
 ghost use Rattle.wa_types.specs.View.{module_of};
 ghost use Rattle.strand_host.specs.StrandPlans.{AllSetUp, AreasApart, FailsFirst, IsPart, IsStrandPlan, OverlapsFirst, entries_of, first_overlap, overlaps_one, areas_overlap, parts_of};
-ghost use Rattle.strand_host.specs.StrandSetups.{AreAtStart, IsParted, SetsUpAll, area_of};
+ghost use Rattle.strand_host.specs.StrandSetups.{SetsUpAll, area_of};
 
 use crate::plan::{StrandFault, StrandPart, StrandPlan};
 use crate::strands::Strand;
@@ -27,12 +27,11 @@ pub(crate) struct Parted<'m> {
 }
 
 /// The strands of a plan at their start, or the first fault.
-pub(crate) fn parted<'m>(
+pub(crate) fn all_parted<'m>(
     alloc: Global,
     plan: StrandPlan<'m>,
 ) -> Result<Parted<'m>, StrandFault>
     requires { IsStrandPlan plan }
-    ensures { IsParted plan.entry result }
 {
     let StrandPlan { plan, strands } = plan;
     let Plan {
@@ -98,10 +97,17 @@ fn all_set_up(
     let mut strand: u32 = 0;
     for part in parts {
         let funcs = strand_set_up(alloc, valid, part, strand)?;
-        all.push(funcs)?;
+        put(&mut all, funcs)?;
         strand += 1;
     }
     Ok(all)
+}
+
+fn put(all: &mut Vec<Vec<u32>>, funcs: Vec<u32>) -> Result<(), AllocError>
+    ensures { OnOk result (all.new.items ≡ all.old.items ++ funcs ∷ []) }
+{
+    all.push(funcs)?;
+    Ok(())
 }
 
 // Those of one strand.

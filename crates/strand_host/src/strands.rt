@@ -42,7 +42,7 @@ pub enum Then {
 
 /// What an event leads to, of a strand that is in the start function or not: the end by the last entry is the strand's alone, and so is that by a
 /// trap, but in the start function.
-pub fn then(event: &Event, starts: bool) -> Then
+pub fn leads_to(event: &Event, starts: bool) -> Then
     ensures { result ≡ leads_to starts (event_of event.now) }
 {
     match event {
