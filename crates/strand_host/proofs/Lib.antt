@@ -1,6 +1,7 @@
 pub mod Events
 pub mod FewStrandEvents
 pub mod FollowsTold
+pub mod GoingOn
 pub mod HostedStrands
 pub mod PlainMoves
 pub mod Rows
@@ -23,3 +24,4 @@ pub mod StrandOrder
 pub mod StrandPlaces
 pub mod StrandShown
 pub mod StrandTold
+pub mod TheLaws
