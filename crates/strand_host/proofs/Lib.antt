@@ -1,5 +1,8 @@
 pub mod Events
+pub mod FewStrandEvents
+pub mod FollowsTold
 pub mod GoingOn
+pub mod HostedStrands
 pub mod PlainMoves
 pub mod Rows
 pub mod StandingEnds
@@ -15,5 +18,10 @@ pub mod StandingTurns
 pub mod StandingWoven
 pub mod StoresKept
 pub mod StrandBeginnings
+pub mod StrandBegun
+pub mod StrandLines
+pub mod StrandOrder
 pub mod StrandPlaces
+pub mod StrandShown
+pub mod StrandTold
 pub mod TheLaws

@@ -8,7 +8,7 @@ use Rattle.vault_port.specs.Counts.{FailsOnce}
 use Rattle.vault_port.specs.Told.{Becomes}
 use Rattle.vault_port.specs.Taken.{Appends, AppendsLess}
 use Rattle.vault_port.proofs.Telling.{put_once}
-use Rattle.script_model.specs.Transcript.{refusal_line, out_of_memory}
+use Rattle.script_model.specs.Transcript.{refusal_line}
 use Rattle.transcript.specs.Refused.{EndsInMemory, FailsLast, Prints, PrintsMemory, memory_line}
 
 pub memory_text : memory_line ≡ codes "out of memory\n"

@@ -45,7 +45,7 @@ fn put_times(alloc: Global, text: &mut Vec<u8>, tick: u64, program: u32) -> Resu
 }
 
 // The text of an event that began at this tick.
-fn put_event(
+pub(crate) fn put_event(
     alloc: Global,
     text: &mut Vec<u8>,
     tick: u64,

@@ -7,7 +7,7 @@
 //! as far as the sink takes it, and its status is 9. Which events come is `world_hosting`'s matter.
 //!
 //! - `parts`: words, numbers, names, bytes and values.
-//! - `ends`, `events`: the texts of ends, the lines of events.
+//! - `ends`, `events`, `strands`: the texts of ends, the lines of events, of programs and of their strands.
 //! - `refusals`: the lines of refusals.
 //! - `lines`, `refused`: single lines and refusals, over a sink that may fail.
 #![tactic(auto)]
@@ -18,8 +18,10 @@ mod lines;
 mod parts;
 mod refusals;
 mod refused;
+mod strands;
 
 pub use events::{Names, line};
 pub use lines::{put_last, put_line};
 pub use refusals::{Refusal, RefusalKind, fault_line};
 pub use refused::{out_of_memory, refuse, refuse_program, refuse_read, refuse_write};
+pub use strands::{StrandLineParts, strand_line};
