@@ -1,5 +1,6 @@
 pub mod Events
 pub mod Rows
+pub mod SetupLoops
 pub mod StandingEnds
 pub mod StandingGoes
 pub mod StandingLed
