@@ -1,4 +1,5 @@
 pub mod Events
+pub mod PlainMoves
 pub mod Rows
 pub mod SetupLoops
 pub mod StandingEnds

@@ -59,6 +59,7 @@ pub struct StrandProgram<'m> {
 }
 
 impl<'m> StrandProgram<'m> {
+    ghost use Rattle.std.specs.Vec.{with_item};
     ghost use Rattle.wa_types.specs.View.{module_of};
     ghost use Rattle.wa_model.specs.Instantiation.{opening};
     ghost use Rattle.wa_model.specs.Outside.{ended};
@@ -170,7 +171,7 @@ impl<'m> StrandProgram<'m> {
         ensures event { (result.strand ≡ 0) × (event_of result.event ≡ ended end) }
         ensures state { self.new ≡ record self.old { state = State.Failed } }
     {
-        self.state = State::Failed;
+        self.put_state(State::Failed);
         StrandEvent {
             strand: 0,
             event: Event::Ended(end),
@@ -478,7 +479,7 @@ impl<'m> StrandProgram<'m> {
     fn tell(&mut self, instance: Instance<'m>, going: Going, event: Event) -> StrandEvent
         requires there { going.number < length self.old.dues.items }
         requires slots { length self.old.strands.items ≡ length self.old.dues.items }
-        requires few { (due ticks : ℕ) → slice_get self.old.dues.items going.number ≡ Some (Some due) → leads_to going.starts (event_of event) ≡ Pauses ticks → due + ticks < 2 ^ 64 }
+        requires few { (due ticks : ℕ) → slice_get self.old.dues.items going.number ≡ Some (Some due) → leads_to going.starts (event_of event) ≡ Then.Pauses ticks → due + ticks < 2 ^ 64 }
         ensures event { (result.strand ≡ going.number) × (result.event ≡ event) }
         ensures settles { Settles self.old instance.entry going (leads_to going.starts (event_of event)) self.new }
     {
@@ -492,14 +493,14 @@ impl<'m> StrandProgram<'m> {
     fn settle(&mut self, instance: Instance<'m>, going: Going, then: Then)
         requires there { going.number < length self.old.dues.items }
         requires slots { length self.old.strands.items ≡ length self.old.dues.items }
-        requires few { (due ticks : ℕ) → slice_get self.old.dues.items going.number ≡ Some (Some due) → then ≡ Pauses ticks → due + ticks < 2 ^ 64 }
+        requires few { (due ticks : ℕ) → slice_get self.old.dues.items going.number ≡ Some (Some due) → then ≡ Then.Pauses ticks → due + ticks < 2 ^ 64 }
         ensures { Settles self.old instance.entry going then self.new }
     {
         match then {
-            Then::GoesOn => self.state = State::Runs { instance, going },
+            Then::GoesOn => self.put_state(State::Runs { instance, going }),
             Then::Pauses(ticks) => self.put_off(instance, going, ticks),
             Then::EndsAlone => self.end_strand(instance, going.number),
-            Then::EndsAll => self.state = State::Over { instance },
+            Then::EndsAll => self.put_state(State::Over { instance }),
         }
     }
 
@@ -508,7 +509,7 @@ impl<'m> StrandProgram<'m> {
         requires there { going.number < length self.old.dues.items }
         requires slots { length self.old.strands.items ≡ length self.old.dues.items }
         requires few { (due : ℕ) → slice_get self.old.dues.items going.number ≡ Some (Some due) → due + ticks < 2 ^ 64 }
-        ensures { Settles self.old instance.entry going (Pauses ticks) self.new }
+        ensures { Settles self.old instance.entry going (Then.Pauses ticks) self.new }
     {
         let Going {
             number,
@@ -517,21 +518,36 @@ impl<'m> StrandProgram<'m> {
         } = going;
         let place = number as usize;
         self.dues[place] = later(self.dues[place], ticks);
+        self.put_strand(place, strand);
+        self.put_state(State::Between { instance });
+    }
+
+    // The strand waits in this place. What stood there before is dropped.
+    fn put_strand(&mut self, place: usize, strand: Strand)
+        requires { place < length self.old.strands.items }
+        ensures { self.new ≡ record self.old { strands = with_item self.old.strands place (Some strand) } }
+    {
         self.strands[place] = Some(strand);
-        self.state = State::Between { instance };
+    }
+
+    // Where the program stands from here on. What it held there before is dropped.
+    fn put_state(&mut self, state: State<'m>)
+        ensures { self.new ≡ record self.old { state = state.entry } }
+    {
+        self.state = state;
     }
 
     // The strand has ended; where no other is left, so has the program.
     fn end_strand(&mut self, instance: Instance<'m>, number: u32)
         requires there { number < length self.old.dues.items }
-        ensures { (going : GoingValue) → going.number ≡ number → Settles self.old instance.entry going EndsAlone self.new }
+        ensures { (going : GoingValue) → going.number ≡ number → Settles self.old instance.entry going Then.EndsAlone self.new }
     {
         self.dues[number as usize] = None;
         if next_turn(&self.dues).is_none() {
-            self.state = State::Over { instance };
+            self.put_state(State::Over { instance });
             return;
         }
-        self.state = State::Between { instance };
+        self.put_state(State::Between { instance });
     }
 
     // ---- what a host asks
