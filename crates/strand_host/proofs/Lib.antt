@@ -15,4 +15,5 @@ pub mod StandingTurns
 pub mod StandingWoven
 pub mod StoresKept
 pub mod StrandBeginnings
+pub mod StrandFresh
 pub mod StrandPlaces

@@ -144,3 +144,7 @@ start_all parts funcs rest left done st el = by rest (subst (λ (ys : List (List
     by : (rest : List StrandPart) → Starting parts funcs rest [] done → AreAtStart parts funcs done
     by [] s = subst (AreAtStart parts funcs) (append-nil done) (s.0 [] refl)
     by (r ∷ rs) s = absurd s.1
+
+pub none_is : {X : Type 0} (o : Option X) → ((x : X) → o ≡ Some x → ⊥) → o ≡ None
+none_is None h = refl
+none_is (Some x) h = absurd (h x refl)

@@ -2,6 +2,7 @@
 use Rattle.std.specs.Prelude.{◌≡◌, ℕ, List, [], ◌∷◌, length, map, Option, Some, None, Result, Ok, Err}
 use Rattle.std.specs.Global.{Vec}
 use Rattle.wa_types.specs.Syntax.{Module}
+use Rattle.wa_types.specs.Validity.{Valid}
 use Rattle.wa_model.specs.declared.answers.Area.{Area}
 use Rattle.host_setup.specs.SetUp.{Fault}
 use Rattle.host_setup.specs.Views.{Blames}
@@ -69,6 +70,7 @@ AreAtStart _ _ _ = ⊥
 
 -- A program's strands at their start, none of whose areas overlaps another; the setting has that of each as a range that answers leave alone.
 pub record IsParted (x : StrandPlan) (y : Parted) : Type 0 where
+  pub lawful : Valid (source_of x.plan)
   pub funcs : List (List ℕ)
   pub all : AllSetUp (source_of x.plan) (parts_of x) funcs
   pub apart : AreasApart (map area_of (parts_of x))

@@ -30,10 +30,7 @@ pub(crate) struct Parted<'m> {
 }
 
 /// The strands of a plan at their start, or the first fault.
-pub(crate) fn all_parted<'m>(
-    alloc: Global,
-    plan: StrandPlan<'m>,
-) -> Result<Parted<'m>, StrandFault>
+pub(crate) fn all_parted<'m>(alloc: Global, plan: StrandPlan<'m>) -> Result<Parted<'m>, StrandFault>
     requires { IsStrandPlan plan }
     ensures { SetsUpParted plan.entry result }
 {
@@ -220,11 +217,7 @@ fn at_start(
     Ok(strands)
 }
 
-fn strand_at_start(
-    alloc: Global,
-    part: StrandPart,
-    funcs: &[u32],
-) -> Result<Strand, AllocError>
+fn strand_at_start(alloc: Global, part: StrandPart, funcs: &[u32]) -> Result<Strand, AllocError>
     requires { length funcs.now ≡ length part.entries.items }
     ensures { IfOk result (λ strand. IsAtStart part funcs.now strand) }
 {
