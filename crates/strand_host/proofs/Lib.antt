@@ -1,4 +1,5 @@
 pub mod Events
+pub mod GoingOn
 pub mod PlainMoves
 pub mod Rows
 pub mod SetupLoops
@@ -17,3 +18,4 @@ pub mod StoresKept
 pub mod StrandBeginnings
 pub mod StrandFresh
 pub mod StrandPlaces
+pub mod TheLaws

@@ -483,9 +483,11 @@ impl<'m> StrandProgram<'m> {
     fn tell(&mut self, instance: Instance<'m>, going: Going, event: Event) -> StrandEvent
         requires there { going.number < length self.old.dues.items }
         requires slots { length self.old.strands.items ≡ length self.old.dues.items }
-        requires few { (due ticks : ℕ) → slice_get self.old.dues.items going.number ≡ Some (Some due) → leads_to going.starts (event_of event) ≡ Then.Pauses ticks → due + ticks < 2 ^ 64 }
+        requires few { (due ticks : ℕ) → slice_get self.old.dues.items going.number ≡ Some (Some due) → leads_to going.starts (event_of event) ≡ Then.Pauses ticks → ticks < 2 ^ 32
+            → due + ticks < 2 ^ 64 }
         ensures event { (result.strand ≡ going.number) × (result.event ≡ event) }
         ensures settles { Settles self.old instance.entry going (leads_to going.starts (event_of event)) self.new }
+        ensures short { (ticks : ℕ) → leads_to going.starts (event_of event) ≡ Then.Pauses ticks → ticks < 2 ^ 32 }
     {
         let strand = going.number;
         let then = leads_to(&event, going.starts);
