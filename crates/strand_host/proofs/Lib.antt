@@ -5,6 +5,7 @@ pub mod GoingOn
 pub mod HostedStrands
 pub mod PlainMoves
 pub mod Rows
+pub mod SetupLoops
 pub mod StandingEnds
 pub mod StandingGoes
 pub mod StandingLed
@@ -19,6 +20,7 @@ pub mod StandingWoven
 pub mod StoresKept
 pub mod StrandBeginnings
 pub mod StrandBegun
+pub mod StrandFresh
 pub mod StrandLines
 pub mod StrandOrder
 pub mod StrandPlaces

@@ -76,23 +76,27 @@ impl<'m> StrandProgram<'m> {
         requires { IsStrandPlan plan }
         ensures { SetsUpStrands plan.entry result }
     {
-        let Parted {
-            valid,
-            globals,
-            setting,
-            steps_left,
-            dues,
-            strands,
-        } = all_parted(alloc, plan)?;
-        Ok(StrandProgram {
-            valid,
-            globals,
-            setting,
-            steps_left,
-            dues,
-            strands,
-            state: State::Fresh,
-        })
+        match all_parted(alloc, plan) {
+            Err(fault) => Err(fault),
+            Ok(
+                Parted {
+                    valid,
+                    globals,
+                    setting,
+                    steps_left,
+                    dues,
+                    strands,
+                },
+            ) => Ok(StrandProgram {
+                valid,
+                globals,
+                setting,
+                steps_left,
+                dues,
+                strands,
+                state: State::Fresh,
+            }),
+        }
     }
 
     /// The next event, of the strand whose turn it is: of the one whose turn goes on, else of the one that is due first. After want of
