@@ -1,0 +1,17 @@
+pub mod Events
+pub mod PlainMoves
+pub mod Rows
+pub mod StandingEnds
+pub mod StandingGoes
+pub mod StandingLed
+pub mod StandingMoves
+pub mod StandingNext
+pub mod StandingStart
+pub mod StandingStories
+pub mod StandingTellers
+pub mod StandingThreads
+pub mod StandingTurns
+pub mod StandingWoven
+pub mod StoresKept
+pub mod StrandBeginnings
+pub mod StrandPlaces

@@ -1,0 +1,1 @@
+use Rattle.strand_host.proofs.PlainMoves.{plain_moves}
