@@ -112,7 +112,7 @@ all_over g t x ts low wide rows none k = by_row k
 -- ---- what a strand does is a stretch
 
 module _ (laws : Laws) (p : Module) (plan : Plan) where
-  so_stretch : (starts : Bool) (ready : List Note) (h : Held) (os : List Outcome) (made : List Note) (used : ℕ) (h' : Held) (starts' : Bool) → GoesSo p plan starts ready h os made used h' starts'
+  pub so_stretch : (starts : Bool) (ready : List Note) (h : Held) (os : List Outcome) (made : List Note) (used : ℕ) (h' : Held) (starts' : Bool) → GoesSo p plan starts ready h os made used h' starts'
       → Stretch p plan h os made used h'
   so_stretch starts ready h os made used h' starts' (as_before none stretch) = stretch
   so_stretch starts ready h os made used h' starts' (behind_start e out stretch) = stretch
@@ -141,6 +141,16 @@ memory_told g i some code = by_test (nat_lt 0 (length (all_memories (code_in i))
     by_test : (b : Bool) → b ≡ true → unwrap_or (cond b (Some (store_in i).memory) None) [] ≡ (store_in i).memory
     by_test true e = refl
     by_test false e = cc
+
+-- a stage that is a pause is one
+pub paused_at : (stage : Stage) → is_paused stage ≡ true → (pause : Pause) × (stage ≡ S.Paused pause)
+paused_at (S.Paused pause) e = (pause, refl)
+paused_at S.Free e = cc
+paused_at (S.Answering task answer) e = cc
+paused_at (S.Giving task value) e = cc
+paused_at (S.Pausing pause) e = cc
+paused_at (S.Ending end) e = cc
+paused_at (S.Ended end) e = cc
 
 -- ---- where the program then stands
 
@@ -450,16 +460,6 @@ module _ (laws : Laws) (g : StrandsInWorld) (t : ProgramTeller) (x : Stock) (k :
       memory = sym (ap memory_at state ∙ memory_kept);
     }
 
-  -- a stage that is a pause is one
-  paused_at : (stage : Stage) → is_paused stage ≡ true → (pause : Pause) × (stage ≡ S.Paused pause)
-  paused_at (S.Paused pause) e = (pause, refl)
-  paused_at S.Free e = cc
-  paused_at (S.Answering task answer) e = cc
-  paused_at (S.Giving task value) e = cc
-  paused_at (S.Pausing pause) e = cc
-  paused_at (S.Ending end) e = cc
-  paused_at (S.Ended end) e = cc
-
   abbrev put_off_in : Stock → (number ticks : ℕ) → Stock
   put_off_in z n ticks = record z {
     dues = slice_set z.dues n (option_map (λ due. due + ticks) (due_at n z.dues));
@@ -471,7 +471,7 @@ module _ (laws : Laws) (g : StrandsInWorld) (t : ProgramTeller) (x : Stock) (k :
 
   module _ (old x' : StrandProgram) (same : stock_of old ≡ paid) (settles : Settles old i' going (leads_to going.starts note.event) x')
       (pause_so : is_paused going.strand.stage ≡ is_pause note.event) (few : (ticks taken : ℕ) → note.event ≡ paused ticks taken → ticks ≤ longest_pause)
-      (out : (behind : List Note) (h' : Held) → going.starts ≡ false → place_of g i' going.strand ≡ stands behind h' → is_in_start h' ≡ false)
+      (out : (made behind : List Note) (h' : Held) → Stretch p plan a.held os made used h' → going.starts ≡ false → place_of g i' going.strand ≡ stands behind h' → is_in_start h' ≡ false)
       (waiting : (behind : List Note) (h' : Held) → place_of g i' going.strand ≡ stands behind h' → AreWaiting behind h')
       (start : is_end note.event ≡ false → InStart going.starts going) where
     settled : (e : Event) → note.event ≡ e → Settles old i' going (leads_to going.starts e) x'
@@ -483,7 +483,7 @@ module _ (laws : Laws) (g : StrandsInWorld) (t : ProgramTeller) (x : Stock) (k :
       where
         on : (e : Event) → note.event ≡ e → ends_turn e ≡ false → Settles old i' going GoesOn x' → Told x'
         on e is stays z =
-            runs x' (z.0 ∙ same) z.1 (goes_on made behind h' so made_is (ap ends_turn is ∙ stays) place' (λ no_start. out behind h' no_start place') (waiting behind h' place')) (start more)
+            runs x' (z.0 ∙ same) z.1 (goes_on made behind h' so made_is (ap ends_turn is ∙ stays) place' (λ no_start. out made behind h' (so_stretch laws p plan starts a.ready a.held os made used h' going.starts so) no_start place') (waiting behind h' place')) (start more)
 
         stops : (ticks taken : ℕ) → note.event ≡ paused ticks taken → Told x'
         stops ticks taken is =

@@ -1,6 +1,11 @@
 pub mod Events
+pub mod FewStrandEvents
+pub mod FollowsTold
+pub mod GoingOn
+pub mod HostedStrands
 pub mod PlainMoves
 pub mod Rows
+pub mod SetupLoops
 pub mod StandingEnds
 pub mod StandingGoes
 pub mod StandingLed
@@ -14,4 +19,11 @@ pub mod StandingTurns
 pub mod StandingWoven
 pub mod StoresKept
 pub mod StrandBeginnings
+pub mod StrandBegun
+pub mod StrandFresh
+pub mod StrandLines
+pub mod StrandOrder
 pub mod StrandPlaces
+pub mod StrandShown
+pub mod StrandTold
+pub mod TheLaws

@@ -318,15 +318,15 @@ opens_first g t x instance s o none e = subst (λ (u : Strand). TurnAt g t (take
     placed : place_of g instance f.first ≡ stands ready h
     placed = ap (place_in (exports_of g.program.source) f.first.area l st (waits_in instance)) f.stage
 
-    long : f.low ≤ length (store_held h).memory
-    long = subst (λ (r : Ran Held Note). f.low ≤ length (store_held r.last).memory) begun f.long
-
     on_store : (es : List Entry) → store_held (held_on st l es) ≡ st
     on_store [] = refl
     on_store (y ∷ es) = refl
 
+    long : f.low ≤ length (store_held h).memory
+    long = subst (λ (z : Store). f.low ≤ length z.memory) (sym (on_store l.entries)) (f.long st o.store)
+
     notes : NotesFit g f.low ready h
-    notes = by l.entries (subst (λ (z : Store). f.low ≤ length z.memory) (on_store l.entries) long)
+    notes = by l.entries (f.long st o.store)
       where
         by : (es : List Entry) → f.low ≤ length st.memory → NotesFit g f.low (done_notes st es) (held_on st l es)
         by [] le = (o.fits, le, (λ q. (refl, refl)), tt)
@@ -339,7 +339,7 @@ opens_start g t x instance s func o there e = subst (λ (u : Strand). StartsAt g
   at = first_at g t x f true [] h (stands [] h) refl
       (subst (λ (r : Ran Held Note). InTurn g t x.steps_left 0 0 true r.events r.last (all_at_start g.program)) opened (first_turn g t x f))
       (subst (λ (r : Ran Held Note). HeldFits g.program.source r.last) begun f.fits) (subst (λ (r : Ran Held Note). HeldHolds f.first.area r.last) begun f.holds) tt
-      (subst (λ (r : Ran Held Note). f.low ≤ length (store_held r.last).memory) begun f.long) (λ q. true_false q);
+      (f.long st o.store) (λ q. true_false q);
   code = o.code ∙ sym f.is.source;
   fits = o.fits;
 })

@@ -243,7 +243,7 @@ pub record FreshAt (g : StrandsInWorld) (t : ProgramTeller) (x : Stock) : Type 0
   pub stage : first.stage ≡ Stage.Free
   pub fits : HeldFits g.program.source (held_begun g.program.source.start (left_of first.left) (opening g.program.source g.program.globals)).last
   pub holds : HeldHolds first.area (held_begun g.program.source.start (left_of first.left) (opening g.program.source g.program.globals)).last
-  pub long : low ≤ length (store_held (held_begun g.program.source.start (left_of first.left) (opening g.program.source g.program.globals)).last).memory
+  pub long : (st : Store) → opening x.source x.globals ≡ opens st → low ≤ length st.memory
 
 -- All was told.
 pub record EndedAt (g : StrandsInWorld) (t : ProgramTeller) : Type 0 where

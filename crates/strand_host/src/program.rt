@@ -76,23 +76,27 @@ impl<'m> StrandProgram<'m> {
         requires { IsStrandPlan plan }
         ensures { SetsUpStrands plan.entry result }
     {
-        let Parted {
-            valid,
-            globals,
-            setting,
-            steps_left,
-            dues,
-            strands,
-        } = all_parted(alloc, plan)?;
-        Ok(StrandProgram {
-            valid,
-            globals,
-            setting,
-            steps_left,
-            dues,
-            strands,
-            state: State::Fresh,
-        })
+        match all_parted(alloc, plan) {
+            Err(fault) => Err(fault),
+            Ok(
+                Parted {
+                    valid,
+                    globals,
+                    setting,
+                    steps_left,
+                    dues,
+                    strands,
+                },
+            ) => Ok(StrandProgram {
+                valid,
+                globals,
+                setting,
+                steps_left,
+                dues,
+                strands,
+                state: State::Fresh,
+            }),
+        }
     }
 
     /// The next event, of the strand whose turn it is: of the one whose turn goes on, else of the one that is due first. After want of
@@ -479,9 +483,11 @@ impl<'m> StrandProgram<'m> {
     fn tell(&mut self, instance: Instance<'m>, going: Going, event: Event) -> StrandEvent
         requires there { going.number < length self.old.dues.items }
         requires slots { length self.old.strands.items ≡ length self.old.dues.items }
-        requires few { (due ticks : ℕ) → slice_get self.old.dues.items going.number ≡ Some (Some due) → leads_to going.starts (event_of event) ≡ Then.Pauses ticks → due + ticks < 2 ^ 64 }
+        requires few { (due ticks : ℕ) → slice_get self.old.dues.items going.number ≡ Some (Some due) → leads_to going.starts (event_of event) ≡ Then.Pauses ticks → ticks < 2 ^ 32
+            → due + ticks < 2 ^ 64 }
         ensures event { (result.strand ≡ going.number) × (result.event ≡ event) }
         ensures settles { Settles self.old instance.entry going (leads_to going.starts (event_of event)) self.new }
+        ensures short { (ticks : ℕ) → leads_to going.starts (event_of event) ≡ Then.Pauses ticks → ticks < 2 ^ 32 }
     {
         let strand = going.number;
         let then = leads_to(&event, going.starts);

@@ -1,9 +1,12 @@
 //! A plan with strands, set up: the functions of each strand's entries, areas that are apart, and the strands at their start.
 
-ghost use Rattle.std.specs.Prelude.{◌≡◌, ◌<◌, ◌≤◌, ◌+◌, ◌^◌, ◌++◌, ◌∷◌, [], ℕ, List, IfOk, OnOk, All, length, map};
+ghost use Rattle.std.specs.Prelude.{◌≡◌, ◌<◌, ◌≤◌, ◌+◌, ◌^◌, ◌++◌, ◌∷◌, [], ℕ, List, IfOk, OnOk, All, Option, Some, Result, length, map};
 ghost use Rattle.wa_types.specs.View.{module_of};
-ghost use Rattle.strand_host.specs.StrandPlans.{AllSetUp, AreasApart, FailsFirst, IsPart, IsStrandPlan, OverlapsFirst, entries_of, first_overlap, overlaps_one, areas_overlap, parts_of};
-ghost use Rattle.strand_host.specs.StrandSetups.{SetsUpAll, area_of};
+ghost use Rattle.strand_host.specs.StrandPlans.{AllSetUp, AreasApart, FailsFirst, IsPart, IsStrandPlan, OverlapsFirst, entries_of, first_overlap, overlaps_one, areas_overlap, parts_of, set_up_of};
+ghost use Rattle.strand_host.specs.StrandSetups.{AllOfLength, AreAtStart, BlamesStrand, IsAtStart, SetsUpAll, SetsUpOne, SetsUpParted, area_of, items_of};
+ghost use Rattle.strand_host.specs.declared.plan.StrandPart.{StrandPart as StrandPartValue};
+ghost use Rattle.host_setup.specs.SetUp.{Fault};
+ghost use Rattle.host_setup.specs.Views.{Blames};
 
 use crate::plan::{StrandFault, StrandPart, StrandPlan};
 use crate::strands::Strand;
@@ -27,11 +30,9 @@ pub(crate) struct Parted<'m> {
 }
 
 /// The strands of a plan at their start, or the first fault.
-pub(crate) fn all_parted<'m>(
-    alloc: Global,
-    plan: StrandPlan<'m>,
-) -> Result<Parted<'m>, StrandFault>
+pub(crate) fn all_parted<'m>(alloc: Global, plan: StrandPlan<'m>) -> Result<Parted<'m>, StrandFault>
     requires { IsStrandPlan plan }
+    ensures { SetsUpParted plan.entry result }
 {
     let StrandPlan { plan, strands } = plan;
     let Plan {
@@ -51,11 +52,13 @@ pub(crate) fn all_parted<'m>(
     };
     let parts = in_front(alloc, first, strands)?;
     let funcs = all_set_up(alloc, valid, &parts)?;
-    if let Some(strand) = overlapping(&parts) {
+    let areas = areas(alloc, &parts)?;
+    if let Some(strand) = overlapping(&areas) {
         return Err(StrandFault::Overlap { strand });
     }
-    let setting = setting_of(alloc, valid.module(), listed, binds, area, steps)?;
-    let dues = all_due(alloc, parts.len())?;
+    let mut setting = setting_of(alloc, valid.module(), listed, binds, area, steps)?;
+    setting.others = areas;
+    let dues = all_due(alloc, &parts)?;
     let strands = at_start(alloc, parts, &funcs)?;
     Ok(Parted {
         valid,
@@ -96,7 +99,10 @@ fn all_set_up(
     let mut all = Vec::new(alloc);
     let mut strand: u32 = 0;
     for part in parts {
-        let funcs = strand_set_up(alloc, valid, part, strand)?;
+        let funcs = match strand_set_up(alloc, valid, part, strand) {
+            Ok(funcs) => funcs,
+            Err(fault) => return Err(fault),
+        };
         put(&mut all, funcs)?;
         strand += 1;
     }
@@ -118,6 +124,7 @@ fn strand_set_up(
     strand: u32,
 ) -> Result<Vec<u32>, StrandFault>
     requires { length part.now.entries.items < 2 ^ 32 }
+    ensures { SetsUpOne (set_up_of (module_of valid.now) part.now) strand result }
 {
     match set_up(alloc, valid, part.area, &part.entries) {
         Ok(funcs) => Ok(funcs),
@@ -126,21 +133,23 @@ fn strand_set_up(
 }
 
 // A fault of a strand; want of memory is nobody's.
-fn setup_fault(strand: u32, fault: SetupFault) -> StrandFault {
+fn setup_fault(strand: u32, fault: SetupFault) -> StrandFault
+    ensures { (told : Result (List ℕ) Fault) → Blames fault told → BlamesStrand told strand result }
+{
     match fault {
         SetupFault::Memory => StrandFault::Memory,
         fault => StrandFault::Setup { strand, fault },
     }
 }
 
-// The first strand whose area shares a byte with an earlier one's.
-fn overlapping(parts: &[StrandPart]) -> Option<u32>
-    requires { length parts.now ≤ 16 }
-    ensures { result ≡ first_overlap [] 0 (map area_of parts.now) }
+// The first of these areas that shares a byte with an earlier one.
+fn overlapping(areas: &[Area]) -> Option<u32>
+    requires { length areas.now ≤ 16 }
+    ensures { result ≡ first_overlap [] 0 areas.now }
 {
     let mut strand: u32 = 0;
-    for (place, part) in parts.iter().enumerate() {
-        if overlaps_one(&parts[..place], part.area) {
+    for (place, area) in areas.iter().enumerate() {
+        if overlaps_one(&areas[..place], *area) {
             return Some(strand);
         }
         strand += 1;
@@ -148,11 +157,11 @@ fn overlapping(parts: &[StrandPart]) -> Option<u32>
     None
 }
 
-// An area shares a byte with that of one of these parts.
-fn overlaps_one(earlier: &[StrandPart], area: Area) -> bool
-    ensures { result ≡ overlaps_one (map area_of earlier.now) area }
+// An area shares a byte with one of these.
+fn overlaps_one(earlier: &[Area], area: Area) -> bool
+    ensures { result ≡ overlaps_one earlier.now area }
 {
-    earlier.iter().any(|part| overlap(part.area, area))
+    earlier.iter().any(|other| overlap(*other, area))
 }
 
 // Two areas share a byte.
@@ -165,10 +174,23 @@ fn overlap(one: Area, other: Area) -> bool
         && u64::from(other.at) < u64::from(one.at) + u64::from(one.len)
 }
 
+// The areas of all strands.
+fn areas(alloc: Global, parts: &[StrandPart]) -> Result<Vec<Area>, AllocError>
+    ensures { IfOk result (λ areas. areas.items ≡ map area_of parts.now) }
+{
+    let mut areas = Vec::new(alloc);
+    for part in parts {
+        areas.push(part.area)?;
+    }
+    Ok(areas)
+}
+
 // All strands are due at once.
-fn all_due(alloc: Global, count: usize) -> Result<Vec<Option<u64>>, AllocError> {
+fn all_due(alloc: Global, parts: &[StrandPart]) -> Result<Vec<Option<u64>>, AllocError>
+    ensures { IfOk result (λ dues. dues.items ≡ map (λ (s : StrandPartValue). Some 0) parts.now) }
+{
     let mut dues = Vec::new(alloc);
-    for _ in 0..count {
+    for _part in parts {
         dues.push(Some(0))?;
     }
     Ok(dues)
@@ -179,7 +201,10 @@ fn at_start(
     alloc: Global,
     parts: Vec<StrandPart>,
     funcs: &[Vec<u32>],
-) -> Result<Vec<Option<Strand>>, AllocError> {
+) -> Result<Vec<Option<Strand>>, AllocError>
+    requires { AllOfLength parts.items (items_of funcs.now) }
+    ensures { IfOk result (λ strands. AreAtStart parts.items (items_of funcs.now) strands.items) }
+{
     let mut strands = Vec::new(alloc);
     let mut rest = VecDeque::from_vec(parts);
     for own in funcs {
@@ -192,11 +217,10 @@ fn at_start(
     Ok(strands)
 }
 
-fn strand_at_start(
-    alloc: Global,
-    part: StrandPart,
-    funcs: &[u32],
-) -> Result<Strand, AllocError> {
+fn strand_at_start(alloc: Global, part: StrandPart, funcs: &[u32]) -> Result<Strand, AllocError>
+    requires { length funcs.now ≡ length part.entries.items }
+    ensures { IfOk result (λ strand. IsAtStart part funcs.now strand) }
+{
     let StrandPart {
         area,
         entries,

@@ -1,6 +1,6 @@
 //! Strands of a program: where each stands, and what an event leads to.
 
-ghost use Rattle.std.specs.Prelude.{◌≡◌, not};
+ghost use Rattle.std.specs.Prelude.{◌≡◌, ◌<◌, ◌^◌, ℕ, not};
 ghost use Rattle.wa_model.specs.View.{event_of};
 ghost use Rattle.strand_laws.specs.Woven.{ends_strand};
 ghost use Rattle.strand_host.specs.StrandPrograms.{end_leads_to, leads_to};
@@ -43,7 +43,8 @@ pub enum Then {
 /// What an event leads to, of a strand that is in the start function or not: the end by the last entry is the strand's alone, and so is that by a
 /// trap, but in the start function.
 pub fn leads_to(event: &Event, starts: bool) -> Then
-    ensures { result ≡ leads_to starts (event_of event.now) }
+    ensures leads { result ≡ leads_to starts (event_of event.now) }
+    ensures short { (ticks : ℕ) → result ≡ Then.Pauses ticks → ticks < 2 ^ 32 }
 {
     match event {
         Event::Paused { ticks, used: _ } => Then::Pauses(*ticks),

@@ -1,1 +1,1 @@
-use Rattle.strand_host.proofs.PlainMoves.{plain_moves}
+use Rattle.strand_host.proofs.GoingOn.{tells_event}
