@@ -122,7 +122,7 @@ module _ (laws : Laws) (p : Module) (plan : Plan) where
 -- ---- notes
 
 -- those of a machine's moves are those of a program
-fit_of : (g : StrandsInWorld) (v : Valid g.program.source) (plan : Plan) (low : ℕ) (ys : List Note) (h : Held) → NotesGood g.program.source v plan low ys h → NotesFit g low ys h
+pub fit_of : (g : StrandsInWorld) (v : Valid g.program.source) (plan : Plan) (low : ℕ) (ys : List Note) (h : Held) → NotesGood g.program.source v plan low ys h → NotesFit g low ys h
 fit_of g v plan low [] h n = tt
 fit_of g v plan low (y ∷ ys) h n = (n.0.0, n.0.1, n.1, fit_of g v plan low ys h n.2)
 

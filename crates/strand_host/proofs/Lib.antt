@@ -17,6 +17,7 @@ pub mod StandingTellers
 pub mod StandingThreads
 pub mod StandingTurns
 pub mod StandingWoven
+pub mod Starts
 pub mod StoresKept
 pub mod StrandBeginnings
 pub mod StrandBegun

@@ -1,1 +1,1 @@
-use Rattle.strand_host.proofs.GoingOn.{tells_event}
+use Rattle.strand_host.proofs.Starts.{returned_turn}
