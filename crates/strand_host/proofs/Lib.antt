@@ -29,3 +29,4 @@ pub mod StrandPlaces
 pub mod StrandShown
 pub mod StrandTold
 pub mod TheLaws
+pub mod StartTurns

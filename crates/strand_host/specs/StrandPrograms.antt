@@ -354,6 +354,7 @@ pub record OpensAt (g : StrandsInWorld) (t : ProgramTeller) (x : Stock) (instanc
 -- The start function is to be called.
 pub record StartsAt (g : StrandsInWorld) (t : ProgramTeller) (x : Stock) (instance : Instance) (s : Strand) (func : ℕ) : Type 0 where
   pub at : AtPlace g t x 0 s true (stands [] (held_starting func (store_in instance) (left_of s.left)))
+  pub stage : s.stage ≡ Stage.Free
   pub code : code_in instance ≡ g.program.source
   pub fits : StoreFits g.program.source (store_in instance)
 
