@@ -18,6 +18,8 @@ pub mod StandingThreads
 pub mod StandingTurns
 pub mod StandingWoven
 pub mod StartAnswers
+pub mod StartCalls
+pub mod StartTurns
 pub mod Starts
 pub mod StoresKept
 pub mod StrandBeginnings

@@ -340,6 +340,7 @@ opens_start g t x instance s func o there e = subst (λ (u : Strand). StartsAt g
       (subst (λ (r : Ran Held Note). InTurn g t x.steps_left 0 0 true r.events r.last (all_at_start g.program)) opened (first_turn g t x f))
       (subst (λ (r : Ran Held Note). HeldFits g.program.source r.last) begun f.fits) (subst (λ (r : Ran Held Note). HeldHolds f.first.area r.last) begun f.holds) tt
       (f.long st o.store) (λ q. true_false q);
+  stage = f.stage;
   code = o.code ∙ sym f.is.source;
   fits = o.fits;
 })
