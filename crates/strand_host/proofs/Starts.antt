@@ -1,5 +1,5 @@
 -- The start function in the first strand's turn: how it ends, and that it returns.
-use Rattle.std.proofs.Common.{◌≡◌, ℕ, ◌+◌, ◌-◌, ◌≤◌, ◌<◌, Bool, true, false, List, [], ◌∷◌, ◌++◌, length, Option, Some, None, All, refl, sym, ap, ◌∙◌, subst, arith}
+use Rattle.std.proofs.Common.{◌≡◌, ℕ, ◌+◌, ◌-◌, ◌≤◌, ◌<◌, Bool, true, false, List, [], ◌∷◌, ◌++◌, length, Option, Some, None, Result, Ok, Err, IfOk, All, refl, sym, ap, ◌∙◌, subst, arith}
 use Rattle.std.proofs.lemmas.Bool.{false≢true}
 use Rattle.wa_types.specs.Syntax.{Module}
 use Rattle.wa_types.specs.declared.values.Trap.{Trap}
@@ -227,3 +227,15 @@ module _ (laws : Laws) (g : StrandsInWorld) (t : ProgramTeller) (x : Stock) (lef
       out : (es : List Entry) → is_in_start (held_on st l es) ≡ false
       out [] = refl
       out (e ∷ es) = refl
+
+-- ---- results
+
+-- what both clauses of a call give
+pub both_ok : {X F : Type 0} (r : Result X F) (P Q R : X → Type 0) → IfOk r P → IfOk r Q → ((x : X) → P x → Q x → R x) → IfOk r R
+both_ok (Ok x) P Q R p q f = f x p q
+both_ok (Err e) P Q R p q f = tt
+
+-- an event of the first strand
+pub of_first : (g : StrandsInWorld) (t : ProgramTeller) (told : StrandEvent) (ds : List Device) (fs : List ℕ) (x' : StrandProgram) → told.strand ≡ 0
+    → TellsEvent g t (record { strand = 0; event = told.event }) ds fs ds fs x' → TellsEvent g t told ds fs ds fs x'
+of_first g t told ds fs x' e h = subst (λ n. TellsEvent g t (record { strand = n; event = told.event }) ds fs ds fs x') (sym e) h

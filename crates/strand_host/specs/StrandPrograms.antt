@@ -3,7 +3,7 @@ use Rattle.std.specs.Prelude.{◌⊎◌, ◌≡◌, ◌<◌, ◌≤◌, ◌+◌,
 use Rattle.std.specs.Option.{option_map, unwrap_or}
 use Rattle.wa_types.specs.declared.values.Value.{Value}
 use Rattle.wa_types.specs.Syntax.{Module}
-use Rattle.wa_types.specs.Modules.{imported, imported_global}
+use Rattle.wa_types.specs.Modules.{func_imports, imported, imported_global}
 use Rattle.wa_types.specs.View.{module_of}
 use Rattle.wa_model.specs.declared.answers.Area.{Area}
 use Rattle.wa_model.specs.declared.events.End.TheVariants as End
@@ -28,7 +28,7 @@ use Rattle.host_laws.specs.Stretch.{Stretch, is_over}
 use Rattle.pause_host.specs.declared.stages.Setting.{Setting}
 use Rattle.pause_host.specs.declared.stages.Stage.TheVariants as Stage
 use Rattle.pause_host.specs.declared.stages.Task.{Task}
-use Rattle.pause_host.specs.Holding.{HeldHolds}
+use Rattle.pause_host.specs.Holding.{HeldHolds, HoldsArea}
 use Rattle.pause_host.specs.Moves.{CallComes, EndsAt, HasShortPokes, IsSetting}
 use Rattle.pause_host.specs.Programs.{BindsAs, source_of}
 use Rattle.pause_host.specs.Views.{is_starting, left_of, lines_in, place_in, starts}
@@ -314,7 +314,8 @@ IsDueThen dues _ due = IsFirstDue dues due
 abbrev pub StartTurned : (w : W.Program) → Held → (left used : ℕ) → Task → Turn → B.Left → Store → Waits → Type 0
 StartTurned w h left used task (Returned value) l s waits = Stretch w.source w.plan h [] (done_notes s l.entries) used (held_on s l l.entries) × (used ≤ left)
 StartTurned w h left used task (Trapped trap) l s waits = LastMove w.source w.plan h [] (note (ended (End.Trapped trap)) s ∷ []) used (over s) true × (used ≤ left)
-StartTurned w h left used task (Waiting call) l s waits = CallComes w (stands [] h) left used task call l s waits
+StartTurned w h left used task (Waiting call) l s waits =
+    CallComes w (stands [] h) left used task call l s waits × (call.import < func_imports w.source) × HoldsArea w.plan.area s
 StartTurned w h left used task StepsSpent l s waits = EndsAt w h left used (End.StepsSpent w.steps) s
 
 -- ---- set up

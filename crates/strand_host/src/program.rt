@@ -463,6 +463,7 @@ impl<'m> StrandProgram<'m> {
             mut left,
             stage: _,
         } = strand;
+        self.setting.area = area;
         let alloc = self.setting.alloc;
         let mut none = Mailboxes::new(alloc, Vec::new(alloc))?;
         let next = Next::Calls { task, call };
