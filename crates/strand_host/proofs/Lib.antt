@@ -18,6 +18,7 @@ pub mod StandingThreads
 pub mod StandingTurns
 pub mod StandingWoven
 pub mod StartCalls
+pub mod StartTurns
 pub mod Starts
 pub mod StoresKept
 pub mod StrandBeginnings
@@ -29,4 +30,3 @@ pub mod StrandPlaces
 pub mod StrandShown
 pub mod StrandTold
 pub mod TheLaws
-pub mod StartTurns
