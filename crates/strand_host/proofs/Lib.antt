@@ -17,6 +17,7 @@ pub mod StandingTellers
 pub mod StandingThreads
 pub mod StandingTurns
 pub mod StandingWoven
+pub mod StartAnswers
 pub mod StartCalls
 pub mod StartTurns
 pub mod Starts
