@@ -17,6 +17,9 @@ pub mod StandingTellers
 pub mod StandingThreads
 pub mod StandingTurns
 pub mod StandingWoven
+pub mod StartAnswers
+pub mod StartCalls
+pub mod StartTurns
 pub mod Starts
 pub mod StoresKept
 pub mod StrandBeginnings
@@ -28,4 +31,3 @@ pub mod StrandPlaces
 pub mod StrandShown
 pub mod StrandTold
 pub mod TheLaws
-pub mod StartTurns

@@ -50,7 +50,7 @@ giving_waits : (l : B.Left) (v : Option Value) (s : Store) (w : Asker) → Place
 giving_waits l v s (inside task c) = tt
 giving_waits l v s (outermost old) = tt
 
-asker_so : (Q : List Note → Held → Type 0) (s : Store) (task : Task) (w : Waits) (on : Asker → Place) → ((a : Asker) → PlaceSo Q (on a)) → PlaceSo Q (with_asker nowhere s task w on)
+pub asker_so : (Q : List Note → Held → Type 0) (s : Store) (task : Task) (w : Waits) (on : Asker → Place) → ((a : Asker) → PlaceSo Q (on a)) → PlaceSo Q (with_asker nowhere s task w on)
 asker_so Q s T.Outermost I.outermost on h = h (outermost s)
 asker_so Q s T.Outermost (I.inside here under) on h = tt
 asker_so Q s T.Outermost I.nothing on h = tt
@@ -61,7 +61,7 @@ asker_so Q s T.Start (I.inside here under) on h = h _
 asker_so Q s (T.Entry e) I.outermost on h = tt
 asker_so Q s (T.Entry e) (I.inside here under) on h = h _
 
-either_so : (Q : List Note → Held → Type 0) (b : Bool) (place : Place) → PlaceSo Q place → PlaceSo Q (if b then place else nowhere)
+pub either_so : (Q : List Note → Held → Type 0) (b : Bool) (place : Place) → PlaceSo Q place → PlaceSo Q (if b then place else nowhere)
 either_so Q true place h = h
 either_so Q false place h = tt
 

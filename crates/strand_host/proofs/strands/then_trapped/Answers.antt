@@ -1,1 +1,1 @@
-use Rattle.strand_host.proofs.Starts.{returned_turn}
+use Rattle.strand_host.proofs.StartCalls.{call_told}
