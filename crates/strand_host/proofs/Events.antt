@@ -490,7 +490,7 @@ module _ (laws : Laws) (g : StrandsInWorld) (t : ProgramTeller) (x : Stock) (k :
             let stage = paused_at going.strand.stage (pause_so ∙ ap is_pause is) in
             let z = settled (paused ticks taken) is in
             let there : stands behind h' ≡ stands [] (calling (rewinds (entry_of stage.0.entry) stage.0.import (answer_of stage.0.answer) (store_in i')) (store_in i') (exports_of p).start_rewind
-                (V.I32 going.strand.area.at ∷ []) call_again (left_of going.strand.left)) =
+            (V.I32 going.strand.area.at ∷ []) call_again (left_of going.strand.left)) =
             sym place' ∙ ap (place_in (exports_of p) going.strand.area (left_of going.strand.left) (store_in i') (waits_in i')) stage.1 in
             let none : behind ≡ [] = cc in
             let at = pauses stage.0 made h' ticks taken stage.1 (so_stretch laws p plan starts a.ready a.held os made used h' going.starts so) (made_is ∙ ap (λ ys. note ∷ ys) none) is (few ticks taken is)

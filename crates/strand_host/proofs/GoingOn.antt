@@ -163,7 +163,7 @@ module _ (laws : Laws) (due_fits : DueFits) (g : StrandsInWorld) (t : ProgramTel
       no_more behind h' q =
           let stage_is = paused_at m.stage (pauses_so ∙ ap is_pause pause.1) in
           let z : stands behind h' ≡ stands [] (calling (rewinds (entry_of stage_is.0.entry) stage_is.0.import (answer_of stage_is.0.answer) (store_in i')) (store_in i') (exports_of p).start_rewind
-              (V.I32 plan.area.at ∷ []) call_again (left_of s'.left)) = q ∙ ap (place_in (exports_of p) plan.area (left_of s'.left) (store_in i') (waits_in i')) stage_is.1 in
+          (V.I32 plan.area.at ∷ []) call_again (left_of s'.left)) = q ∙ ap (place_in (exports_of p) plan.area (left_of s'.left) (store_in i') (waits_in i')) stage_is.1 in
           cc
 
       by_landed : (q : Place) → LandsSo p plan g.steps false b.ready b.held told.outcomes x.steps_left comes.note used false q → q ≡ to → due + ticks < 2 ^ 64

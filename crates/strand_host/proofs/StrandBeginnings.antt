@@ -12,6 +12,12 @@ use Rattle.wa_model.specs.Plan.{Entry, Plan}
 use Rattle.wa_model.specs.Protocol.{Held, exports_of, held_begun, held_on, over, starting as starting_at, store_held}
 use Rattle.wa_model.specs.Store.{Store}
 use Rattle.wa_types.specs.Syntax.{Module}
+use Rattle.wa_types.specs.View.{module_of}
+use Rattle.wa_model.specs.View.{event_of}
+use Rattle.strand_host.specs.declared.program.StrandProgram.{StrandProgram as Program}
+use Rattle.strand_host.specs.declared.program.State.TheVariants.{Failed}
+use Rattle.strand_host.specs.declared.strands.StrandEvent.{StrandEvent}
+use Rattle.strand_host.specs.StrandTelling.{TellsStrandNote}
 use Rattle.world_model.specs.World.{Device}
 use Rattle.world_laws.proofs.Places.{set_here, set_there}
 use Rattle.run_theory.specs.Fitting.{StoreFits}
@@ -31,7 +37,7 @@ use Rattle.strand_laws.specs.ToldStrands.{ProgramTeller, StrandTeller, having_to
 use Rattle.strand_laws.specs.Weaving.{IsDueFirst, due_in, is_ready, is_there}
 use Rattle.strand_laws.specs.Woven.{Thread, ends_strand, last_event}
 use Rattle.strand_host.specs.declared.strands.Strand.{Strand}
-use Rattle.strand_host.specs.StrandPrograms.{AtPlace, BetweenAt, EndedAt, FreshAt, IsProgram, IsStrand, NotesFit, OpensAt, Row, RowIs, StartsAt, Stock, TurnAt, WaitsWell, place_of}
+use Rattle.strand_host.specs.StrandPrograms.{AtPlace, BetweenAt, EndedAt, FreshAt, IsProgram, IsStrand, NotesFit, OpensAt, Row, RowIs, StartsAt, Stock, TurnAt, WaitsWell, place_of, FollowsStrands, TellsEvent, memory_of, stock_of}
 use Rattle.strand_host.specs.Standing.{AreWaiting, GoesSo, InTurn, IsNoTrap, WholeStory, all_at_start, as_before, dues_of_strands, either_way, is_in_start, opened_first, unless_over}
 use Rattle.strand_host.proofs.Rows.{row_stays}
 use Rattle.strand_host.proofs.StandingEnds.{program_ends}
@@ -385,3 +391,67 @@ fails_first g t x how answers f e all s there = record {
   where
     ready : List Note
     ready = note (ended how) no_store ∷ []
+
+-- ---- the strand that is due first, as its program finds it
+
+module _ (g : StrandsInWorld) (t : ProgramTeller) (x : Stock) (instance : Instance) (k due : ℕ) (b : BetweenAt g t x instance) (l : IsLeast x.dues k due) where
+  least_there : k < length g.program.strands
+  least_there = let a = get_lt x.dues k (Some due) l.there in let z = b.is.dues in omega (arith, a, z)
+
+  pub least_lt : k < length x.strands
+  least_lt = let a = least_there in let z = b.is.slots in omega (arith, a, z)
+
+  pub least_small : k < 4294967296
+  least_small = let a = least_there in let z = b.is.few in omega (arith, a, z)
+
+  pub least_some : slice_get x.strands k ≡ Some None → ⊥
+  least_some e = by r.row
+    where
+      r : Row g t x b.ts b.low k
+      r = b.rows k least_there
+
+      none : r.slot ≡ None
+      none = the_same r.slot None (sym r.slot_is ∙ e)
+
+      by : RowIs g k x.setting b.low r.slot r.due r.teller r.thread → ⊥
+      by row =
+          let gone = subst (λ (o : Option Strand). RowIs g k x.setting b.low o r.due r.teller r.thread) none row in
+          none_is due (sym gone.1 ∙ the_same r.due (Some due) (sym r.due_is ∙ l.there))
+
+-- ---- instantiation that fails
+
+-- That is told by the first strand, and is all.
+pub tells_failed : (g : StrandsInWorld) (t : ProgramTeller) (x x' : Program) (told : StrandEvent) (how : End) (ds : List Device) (faults : List ℕ) → opening (module_of x.valid.now) x.globals.items ≡ fails_as how
+    → ends_strand true how ≡ false → FreshAt g t (stock_of x) → (told.strand ≡ 0) × (event_of told.event ≡ ended how) → x' ≡ record x { state = Failed } → TellsEvent g t told ds faults ds faults x'
+tells_failed g t x x' told how ds faults fails all f event state =
+    subst (λ (y : Program). Tells y told.strand (event_of told.event)) (sym state)
+    (subst (λ n. Tells failed n (event_of told.event)) (sym event.0) (subst (Tells failed 0) (sym event.1) clean))
+  where
+    failed : Program
+    failed = record x { state = Failed }
+
+    Tells : Program → ℕ → Event → Type 0
+    Tells y n e = TellsStrandNote (λ u. FollowsStrands g u y) (memory_of y) g t n e ds faults ds faults
+
+    r : Row g t (stock_of x) (all_at_start g.program) f.low 0
+    r = f.rows 0 f.is.some
+
+    clean : Tells failed 0 (ended how)
+    clean = record {
+      s = r.teller;
+      there = r.teller_is;
+      unfinished = (row_some g t (stock_of x) (all_at_start g.program) f.low 0 r f.first f.first_is).0.unfinished;
+      turn = (first_turn g t (stock_of x) f).turn;
+      note = note (ended how) no_store;
+      event_is = refl;
+      memory_is = refl;
+      met = [];
+      answers = r.teller.answers;
+      takes = (refl, refl);
+      is_last = true;
+      follow = fails_first g t (stock_of x) how r.teller.answers f fails all r.teller r.teller_is;
+    }
+
+-- there is a first strand
+pub some_strand : (g : StrandsInWorld) (t : ProgramTeller) (x : Stock) (instance : Instance) → OpensAt g t x instance → 0 < length x.strands
+some_strand g t x instance o = let a = o.fresh.is.some in let z = o.fresh.is.slots in omega (arith, a, z)

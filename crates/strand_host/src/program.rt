@@ -370,6 +370,7 @@ impl<'m> StrandProgram<'m> {
     ) -> Result<StrandEvent, AllocError>
         requires lent { IsLent }
         requires goes { ForSome (λ g t. TurnAt g t (stock_of self.old) instance 0 (record strand { stage = Stage.Giving Task.Start value }) true) }
+        requires free { strand.stage ≡ Stage.Free }
         ensures next { (g : StrandsInWorld) (t : ProgramTeller) → TurnAt g t (stock_of self.old) instance.entry 0 (record strand { stage = Stage.Giving Task.Start value }) true
             → IfOk result (λ told. TellsEvent g t told (of_all seen devices.old) (of_all faults devices.old) (of_all seen devices.new) (of_all faults devices.new) self.new) }
         ensures kept { IsErr result → of_all seen devices.new ≡ of_all seen devices.old }

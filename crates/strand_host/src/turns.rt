@@ -45,7 +45,14 @@ pub(crate) fn strand_event(
 {
     let mut none = Mailboxes::new(setting.alloc, Vec::new(setting.alloc))?;
     let next = next_event(setting, instance, left, steps, stage)?;
-    let heard = told(setting, instance, &mut left.answers, devices, &mut none, next)?;
+    let heard = told(
+        setting,
+        instance,
+        &mut left.answers,
+        devices,
+        &mut none,
+        next,
+    )?;
     Ok(heard.moved)
 }
 

@@ -17,6 +17,6 @@ returns c =
     let due : c.later.result ≡ option_map (λ tick. tick + c.args.ticks) (due_at n x.dues.items) =
     c.later.ensures ∙ ap (λ (o : Option (Option ℕ)). option_map (λ tick. tick + c.args.ticks) (unwrap_or o None)) (sym there) in (
       ap stock_of c.put_state.ensures ∙ ap stock_of c.put_strand.ensures
-      ∙ ap (λ (o : Option ℕ). record (stock_of x) { dues = slice_set x.dues.items n o; strands = slice_set x.strands.items n (Some c.args.going.strand) }) due,
+          ∙ ap (λ (o : Option ℕ). record (stock_of x) { dues = slice_set x.dues.items n o; strands = slice_set x.strands.items n (Some c.args.going.strand) }) due,
       ap (λ (y : StrandProgram). y.state) c.put_state.ensures,
     )

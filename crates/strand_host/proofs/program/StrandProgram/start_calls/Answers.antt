@@ -23,7 +23,7 @@ told-requires-clause-asks g c =
     )
 
 pub returns-in_err-heard-clause-once : goal.returns-in_err-heard-clause-once
-returns-in_err-heard-clause-once g c = λ e. c.in_err-heard.ensures.once tt
+returns-in_err-heard-clause-once g c = λ e. c.in_err-heard.ensures.once refl
 
 pub tell-requires-clause-there : goal.tell-requires-clause-there
 tell-requires-clause-there g c =
