@@ -1,0 +1,1 @@
+use Rattle.strand_host.proofs.StartCalls.{call_told}
