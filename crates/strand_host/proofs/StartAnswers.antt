@@ -242,9 +242,6 @@ module _ (laws : Laws) (g : StrandsInWorld) (t : ProgramTeller) (x : Stock) (i :
 
 -- ---- by the stage
 
-abbrev pub with_stage : Strand → Stage → Strand
-with_stage s stage = record s { stage = stage }
-
 pub at_stage : (g : StrandsInWorld) (t : ProgramTeller) (x : Stock) (i : Instance) (s : Strand) (stage : Stage) → s.stage ≡ stage → TurnAt g t x i 0 s true → TurnAt g t x i 0 (record s { stage = stage }) true
 at_stage g t x i s stage e at = subst (λ z. TurnAt g t x i 0 (record s { stage = z }) true) e at
 
@@ -252,3 +249,8 @@ pub giving_start : (task : Task) (value : Option Value) → is_starting (S.Givin
 giving_start T.Start value e = refl
 giving_start T.Outermost value e = cc
 giving_start (T.Entry x) value e = cc
+
+pub at_giving : (g : StrandsInWorld) (t : ProgramTeller) (x : Stock) (i : Instance) (s : Strand) (task : Task) (value : Option Value) → s.stage ≡ S.Giving task value → is_starting s.stage ≡ true
+    → TurnAt g t x i 0 s true → TurnAt g t x i 0 (record s { stage = S.Giving T.Start value }) true
+at_giving g t x i s task value e starts at =
+    at_stage g t x i s (S.Giving T.Start value) (e ∙ ap (λ k. S.Giving k value) (giving_start task value (sym (ap is_starting e) ∙ starts))) at
