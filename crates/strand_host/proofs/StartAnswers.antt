@@ -109,7 +109,7 @@ module _ (laws : Laws) (g : StrandsInWorld) (t : ProgramTeller) (x : Stock) (i :
     (at : TurnAt g t x i 0 (record s { stage = S.Answering task answer }) true) (start : starts task ≡ true) (i' : Instance) (m : Moved) (stage_is : m.stage ≡ stage_told task answer.said)
     (pauses_so : PausesSo m)
     (comes : (w : Program) (l : B.Left) (sup : MailSupply) (left_then : ℕ) → PlaceFits w (place_in (exports_of w.source) w.plan.area l (store_in i) (waits_in i) (S.Answering task answer))
-        → ComesFrom w (place_in (exports_of w.source) w.plan.area l (store_in i) (waits_in i) (S.Answering task answer)) left_then 0 m sup sup l (store_in i') (waits_in i'))
+    → ComesFrom w (place_in (exports_of w.source) w.plan.area l (store_in i) (waits_in i) (S.Answering task answer)) left_then 0 m sup sup l (store_in i') (waits_in i'))
     (on : Bool) (is_free : on ≡ false → m.stage ≡ S.Free) (not_free : on ≡ true → m.stage ≡ S.Free → ⊥) where
   abbrev p : Module
   p = g.program.source

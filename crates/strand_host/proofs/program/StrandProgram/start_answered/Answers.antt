@@ -30,8 +30,8 @@ returns c = record {
       let i' = c.tell_answer-moved.new.instance in
       let free : (not c.match-matches.matches ≡ false → m.stage ≡ S.Free) × (not c.match-matches.matches ≡ true → m.stage ≡ S.Free → ⊥) =
       elim c.match-matches.branch [
-        in-Free w ↦ ((λ e. w.in-Free.is), (λ e f. absurd (false≢true (sym (ap not w.matches-is) ∙ e))))
-      | in_default w ↦ ((λ e. absurd (false≢true (sym (sym (ap not w.matches-is) ∙ e)))), (λ e. w.in_default.not-Free))
+        | in-Free w ↦ ((λ e. w.in-Free.is), (λ e f. absurd (false≢true (sym (ap not w.matches-is) ∙ e))))
+        | in_default w ↦ ((λ e. absurd (false≢true (sym (sym (ap not w.matches-is) ∙ e)))), (λ e. w.in_default.not-Free))
       ] in
       let told = answer_told all_laws gw t (stock_of c.args.self.now) c.args.instance s c.args.task c.args.answer at c.requires.starts i' m c.tell_answer-moved.ensures.stage
       c.tell_answer-moved.ensures.pauses c.tell_answer-moved.ensures.comes (not c.match-matches.matches) free.0 free.1 (c.tell_answer-moved.ensures.code ∙ at.code) c.args.self.now c.tell.new.self ds fs refl c.tell.ensures.settles in
