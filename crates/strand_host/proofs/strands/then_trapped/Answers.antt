@@ -1,1 +1,0 @@
-use Rattle.strand_host.proofs.StartCalls.{call_told}
