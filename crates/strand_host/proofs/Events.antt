@@ -1,6 +1,6 @@
 -- What a program with strands has told once a strand has told one event more.
-use Rattle.std.proofs.Common.{◌≡◌, ℕ, zero, suc, ◌+◌, ◌-◌, ◌*◌, ◌≤◌, ◌<◌, ◌⊎◌, inl, inr, Bool, true, false, cond, List, [], ◌∷◌, ◌++◌, length, Option, Some, None, All, refl, sym, ap, ◌∙◌, subst, arith, not, ◌||◌}
-use Rattle.std.specs.Prelude.{slice_get, slice_set, nat_eq, nat_lt, MatchBool}
+use Rattle.std.proofs.Common.{◌≡◌, ℕ, zero, suc, ◌+◌, ◌-◌, ◌≤◌, ◌<◌, ◌⊎◌, inl, inr, Bool, true, false, cond, List, [], ◌∷◌, ◌++◌, length, Option, Some, None, All, refl, sym, ap, ◌∙◌, subst, arith, ◌||◌}
+use Rattle.std.specs.Prelude.{slice_get, slice_set, nat_eq, nat_lt}
 use Rattle.std.specs.Option.{option_map, unwrap_or}
 use Rattle.std.proofs.Math.ListN.{length-set}
 use Rattle.std.proofs.lemmas.Bool.{ltb-true, ltb-false}
@@ -16,15 +16,14 @@ use Rattle.wa_model.specs.Blocking.{Note}
 use Rattle.wa_model.specs.Plan.{Outcome, Plan}
 use Rattle.wa_model.specs.Protocol.{Held, calling, call_again, exports_of, over, rewinds, store_held}
 use Rattle.wa_model.specs.Store.{Store}
-use Rattle.world_model.specs.World.{Program, ends_turn, is_end, put_off, ticks_in}
+use Rattle.world_model.specs.World.{ends_turn, is_end, ticks_in}
 use Rattle.run_theory.specs.Fitting.{StoreFits, global_types, types_of}
 use Rattle.run_laws.specs.FittingStates.{HeldFits}
 use Rattle.world_laws.proofs.Places.{item, set_here, set_there}
 use Rattle.interp.specs.declared.instance.Instance.{Instance}
 use Rattle.interp.specs.Host.{code_in, store_in, waits_in, memory_in}
-use Rattle.host_laws.specs.Places.{Place, has_ended, stands, nowhere}
-use Rattle.host_laws.specs.Stretch.{IsSpent, Stretch, is_over}
-use Rattle.host_laws.specs.Supplies.{Takes}
+use Rattle.host_laws.specs.Places.{Place, has_ended, stands}
+use Rattle.host_laws.specs.Stretch.{IsSpent, Stretch}
 use Rattle.pause_host.specs.Holding.{HeldHolds}
 use Rattle.pause_host.specs.Moves.{HasShortPokes, IsSetting}
 use Rattle.wa_types.specs.declared.values.Value.TheVariants as V
@@ -42,13 +41,12 @@ use Rattle.strand_laws.specs.Weaving.{is_ready}
 use Rattle.strand_laws.specs.Woven.{Thread, ends_strand, put}
 use Rattle.strand_host.specs.declared.strands.Going.{Going}
 use Rattle.strand_host.specs.declared.strands.Strand.{Strand}
-use Rattle.strand_host.specs.declared.strands.Then.TheVariants.{EndsAll, EndsAlone, GoesOn, Pauses}
+use Rattle.strand_host.specs.declared.strands.Then.TheVariants.{GoesOn}
 use Rattle.strand_host.specs.declared.program.StrandProgram.{StrandProgram}
-use Rattle.strand_host.specs.declared.program.State.{State}
 use Rattle.strand_host.specs.declared.program.State.TheVariants.{Between, Over, Runs}
-use Rattle.strand_host.specs.Standing.{AllOver, BetweenTurns, GoesSo, InTurn, LastMoveLeads, NoTurnIsLeft, ProgramEnds, StepsRunOut, StrandEnds, TurnPauses, TurnTells, WholeStory, as_before, as_due, behind_start, by_last_move, dues_of_strands, either_way, is_at_pause, is_in_start, longest_pause, AreWaiting}
-use Rattle.strand_host.specs.StrandPrograms.{AllEnded, AtPlace, BetweenAt, EndedAt, FollowsStrands, InStart, InTurnAt, IsProgram, IsStrand, NotesFit, Row, RowIs, Settles, StandsSo, Stock, TurnAt, WaitsWell, due_at, leads_to, end_leads_to, memory_at, memory_of, place_of, set_to, stock_of, world_strand}
-use Rattle.strand_host.proofs.Rows.{row_stays, waits_longer}
+use Rattle.strand_host.specs.Standing.{AllOver, BetweenTurns, GoesSo, InTurn, LastMoveLeads, NoTurnIsLeft, ProgramEnds, StepsRunOut, StrandEnds, TurnPauses, TurnTells, as_before, as_due, behind_start, by_last_move, dues_of_strands, either_way, is_in_start, longest_pause, AreWaiting}
+use Rattle.strand_host.specs.StrandPrograms.{AllEnded, AtPlace, BetweenAt, EndedAt, FollowsStrands, InStart, InTurnAt, IsProgram, IsStrand, NotesFit, Row, RowIs, Settles, StandsSo, Stock, TurnAt, due_at, leads_to, end_leads_to, memory_at, memory_of, place_of, set_to, stock_of, world_strand}
+use Rattle.strand_host.proofs.Rows.{row_stays}
 use Rattle.strand_host.proofs.StoresKept.{NotesGood, ready_good, stretch_good}
 
 -- A strand that stands here tells this note next, by so many steps, and is there then.

@@ -1,30 +1,25 @@
 -- The turn of a strand behind the start function goes on.
-use Rattle.std.proofs.Common.{◌≡◌, ℕ, suc, ◌+◌, ◌-◌, ◌*◌, ◌≤◌, ◌<◌, ◌^◌, Bool, true, false, List, [], ◌∷◌, ◌++◌, length, Option, Some, None, All, refl, sym, ap, ◌∙◌, subst, arith}
+use Rattle.std.proofs.Common.{◌≡◌, ℕ, ◌+◌, ◌-◌, ◌*◌, ◌≤◌, ◌<◌, ◌^◌, Bool, true, false, List, [], ◌∷◌, ◌++◌, Some, None, All, refl, sym, ap, ◌∙◌, subst, arith}
 use Rattle.std.specs.Prelude.{slice_get}
 use Rattle.std.proofs.Math.Nat.{mul-le-mul_left}
 use Rattle.wa_types.specs.Syntax.{Module}
-use Rattle.wa_model.specs.declared.events.End.{End}
 use Rattle.wa_model.specs.declared.events.End.TheVariants as E
-use Rattle.wa_model.specs.Blocking as B
 use Rattle.wa_model.specs.Blocking.{Note}
 use Rattle.wa_model.specs.Machine.{Leads, stays, moves}
-use Rattle.wa_model.specs.Outside.{AnswerLine, Event, called, answered, paused, parked, returned, ended, shown}
+use Rattle.wa_model.specs.Outside.{Event, called, answered, paused, parked, returned, ended, shown}
 use Rattle.wa_model.specs.Plan.{Outcome, Plan}
-use Rattle.wa_model.specs.Protocol.{Held, call_again, calling, exports_of, over, protocol, rewinds, store_held}
-use Rattle.wa_model.specs.Store.{Store}
+use Rattle.wa_model.specs.Protocol.{Held, call_again, calling, exports_of, protocol, rewinds}
 use Rattle.wa_types.specs.declared.values.Value.TheVariants as V
 use Rattle.wa_model.specs.View.{answer_of, event_of}
-use Rattle.world_model.specs.World.{Device, Program, call_in, is_end}
+use Rattle.world_model.specs.World.{Device, Program, call_in}
 use Rattle.interp.specs.declared.instance.Instance.{Instance}
 use Rattle.interp.specs.Host.{code_in, store_in, waits_in}
-use Rattle.interp.specs.Instance.{Waits}
 use Rattle.host_laws.specs.Places.{Lands, Place, Tells, TellsFrom, has_ended, nowhere, stands}
 use Rattle.host_laws.specs.Places as L
 use Rattle.host_laws.specs.Stretch.{Stretch, meeting}
-use Rattle.host_laws.specs.Supplies.{Supply, Takes}
+use Rattle.host_laws.specs.Supplies.{Takes}
 use Rattle.many_host.specs.Telling.{supply}
 use Rattle.pause_host.specs.declared.stages.Moved.{Moved}
-use Rattle.pause_host.specs.declared.stages.Stage.{Stage}
 use Rattle.pause_host.specs.Holding.{HeldHolds, PlaceHolds}
 use Rattle.pause_host.specs.Hosting.{HostsAt}
 use Rattle.pause_host.specs.Moves.{HasShortPokes, PausesSo, PlaceFits}
@@ -38,10 +33,8 @@ use Rattle.strand_laws.specs.Woven.{ends_strand}
 use Rattle.strand_host.specs.declared.program.StrandProgram.{StrandProgram}
 use Rattle.strand_host.specs.declared.strands.Going.{Going}
 use Rattle.strand_host.specs.declared.strands.Strand.{Strand}
-use Rattle.strand_host.specs.declared.strands.StrandEvent.{StrandEvent}
-use Rattle.strand_host.specs.declared.strands.Then.{Then}
-use Rattle.strand_host.specs.declared.strands.Then.TheVariants.{EndsAll, EndsAlone, GoesOn, Pauses}
-use Rattle.strand_host.specs.Standing.{DueFits, InTurn, behind_start, is_in_start, longest_pause}
+use Rattle.strand_host.specs.declared.strands.Then.TheVariants.{Pauses}
+use Rattle.strand_host.specs.Standing.{DueFits, behind_start, is_in_start, longest_pause}
 use Rattle.strand_host.specs.StrandMoves.{MovesOn}
 use Rattle.strand_host.specs.StrandPrograms.{AtPlace, Settles, Stock, TellsEvent, TurnAt, leads_to, end_leads_to, place_of, set_to, stock_of, world_strand}
 use Rattle.strand_host.proofs.Events.{LandsSo, Laws, Told, ends, lands_told, paused_at, so_stretch, spends, tells}

@@ -1,5 +1,5 @@
 -- What a strand tells next, where there are no mailboxes.
-use Rattle.std.proofs.Common.{◌≡◌, ℕ, Bool, true, false, List, [], ◌∷◌, Option, Some, None, Result, Ok, Err, IfOk, All, refl, sym, subst}
+use Rattle.std.proofs.Common.{◌≡◌, ℕ, Bool, true, false, List, [], ◌∷◌, Option, Some, None, All, sym, subst}
 use Rattle.std.specs.Prelude.{MatchBool}
 use Rattle.std.proofs.lemmas.List.Elements.{All-nil, All-tail}
 use Rattle.wa_types.specs.declared.values.Value.{Value}
@@ -16,7 +16,6 @@ use Rattle.host_laws.specs.Supplies.{Supply, Takes, bound_to}
 use Rattle.pause_host.specs.Mailing.{MailSupply, without_mail}
 use Rattle.pause_host.specs.Moves.{ComesFrom, HasShortPokes}
 use Rattle.pause_host.proofs.Mailings.{plain_takes}
-use Rattle.pause_host.specs.declared.stages.Heard.{Heard}
 use Rattle.pause_host.specs.declared.stages.Moved.{Moved}
 use Rattle.strand_host.specs.StrandMoves.{MovesOn}
 

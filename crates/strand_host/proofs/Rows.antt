@@ -1,24 +1,12 @@
 -- Strands that wait, while another has its turn.
-use Rattle.std.proofs.Common.{◌≡◌, ℕ, ◌+◌, ◌≤◌, ◌<◌, Bool, true, false, List, [], ◌∷◌, length, Option, Some, None, All, refl, sym, ap, ◌∙◌, subst, arith}
-use Rattle.std.specs.Prelude.{slice_get, slice_set}
-use Rattle.wa_types.specs.declared.values.Value.TheVariants as V
-use Rattle.wa_model.specs.declared.answers.Area.{Area}
-use Rattle.wa_model.specs.Blocking.{Left}
-use Rattle.wa_model.specs.Outside.{Answer}
-use Rattle.wa_model.specs.Plan.{Entry}
-use Rattle.wa_model.specs.Protocol.{Exports, Held, calling, call_again, rewinds}
-use Rattle.wa_model.specs.Store.{Store}
-use Rattle.run_theory.specs.Fitting.{StoreFits}
-use Rattle.run_laws.specs.FittingStates.{HeldFits}
-use Rattle.world_laws.proofs.Places.{set_here, set_there}
-use Rattle.pause_host.specs.Holding.{HeldHolds}
-use Rattle.pause_host.proofs.Holding.{area_longer, phase_longer}
+use Rattle.std.proofs.Common.{◌≡◌, ℕ, ◌≤◌, List, length, Option, Some, None, sym, ◌∙◌, subst, arith}
+use Rattle.std.specs.Prelude.{slice_get}
+use Rattle.wa_model.specs.Protocol.{Held}
 use Rattle.pause_host.specs.declared.stages.Setting.{Setting}
 use Rattle.strand_laws.specs.StrandWorld.{StrandsInWorld}
-use Rattle.strand_laws.specs.Strands.{held_wakes}
 use Rattle.strand_laws.specs.ToldStrands.{ProgramTeller, StrandTeller}
-use Rattle.strand_laws.specs.Woven.{Thread, put}
-use Rattle.strand_host.specs.StrandPrograms.{IsProgram, Row, RowIs, Stock, WaitsWell}
+use Rattle.strand_laws.specs.Woven.{Thread}
+use Rattle.strand_host.specs.StrandPrograms.{Row, RowIs, Stock, WaitsWell}
 use Rattle.strand_host.specs.declared.strands.Strand.{Strand}
 
 -- over a memory that is longer from the first

@@ -1,5 +1,5 @@
 -- The answer of an import that the start function has called is told, in the first strand's turn.
-use Rattle.std.proofs.Common.{◌≡◌, ℕ, zero, suc, ◌+◌, ◌-◌, ◌≤◌, ◌<◌, Bool, true, false, List, [], ◌∷◌, ◌++◌, length, Option, Some, None, All, refl, sym, ap, ◌∙◌, subst, arith, append-nil}
+use Rattle.std.proofs.Common.{◌≡◌, ℕ, ◌-◌, ◌≤◌, Bool, true, false, List, [], ◌∷◌, ◌++◌, length, Option, None, refl, sym, ap, ◌∙◌, subst, arith, append-nil}
 use Rattle.std.specs.Prelude.{IfOk, Result, Ok, Err}
 use Rattle.wa_types.specs.Syntax.{Module}
 use Rattle.wa_model.specs.declared.answers.Answer.{Answer as AnswerValue}
@@ -10,14 +10,14 @@ use Rattle.wa_model.specs.declared.events.End.{End}
 use Rattle.wa_model.specs.Blocking as B
 use Rattle.wa_model.specs.Blocking.{Asker, Note, done_notes, inside, note, outermost, poked}
 use Rattle.wa_model.specs.Machine.{Leads, Turn, moves, stays}
-use Rattle.wa_model.specs.Outside.{Event, answered, called, ended, parked, paused, returned, shown}
+use Rattle.wa_model.specs.Outside.{answered, ended}
 use Rattle.wa_model.specs.Plan.{Entry, Outcome, Plan}
 use Rattle.wa_model.specs.Protocol as P
 use Rattle.wa_model.specs.Protocol.{Held, exports_of, held_on, over, protocol}
 use Rattle.wa_model.specs.Store.{Store}
 use Rattle.wa_model.specs.View.{answer_of, event_of}
 use Rattle.wa_types.specs.declared.values.Value.{Value}
-use Rattle.world_model.specs.World.{Device, Program, call_in, is_end}
+use Rattle.world_model.specs.World.{Device, Program, call_in}
 use Rattle.interp.specs.declared.instance.Instance.{Instance}
 use Rattle.interp.specs.Host.{code_in, store_in, waits_in}
 use Rattle.interp.specs.Instance.{Waits}

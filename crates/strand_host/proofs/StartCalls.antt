@@ -1,7 +1,7 @@
 -- A new call of an import in the start function: the notes that it makes are made by one move, which begins in that function.
-use Rattle.std.proofs.Common.{◌≡◌, ℕ, zero, suc, ◌+◌, ◌-◌, ◌≤◌, ◌<◌, Bool, true, false, cond, List, [], ◌∷◌, ◌++◌, length, Option, Some, None, All, refl, sym, ap, ◌∙◌, subst, append-nil, arith}
+use Rattle.std.proofs.Common.{◌≡◌, ℕ, suc, ◌+◌, ◌-◌, ◌≤◌, true, false, List, [], ◌∷◌, ◌++◌, length, Option, Some, None, refl, sym, ap, ◌∙◌, subst, append-nil, arith}
 use Rattle.std.proofs.lemmas.Bool.{false≢true}
-use Rattle.wa_types.specs.Modules.{func_imports, func_type_at}
+use Rattle.wa_types.specs.Modules.{func_type_at}
 use Rattle.wa_types.specs.Syntax.{Module}
 use Rattle.wa_types.specs.declared.values.Value.{Value}
 use Rattle.wa_model.specs.declared.answers.Said.{Said}
@@ -11,13 +11,13 @@ use Rattle.wa_model.specs.declared.events.End.{End}
 use Rattle.wa_model.specs.declared.events.End.TheVariants as E
 use Rattle.wa_model.specs.Blocking as B
 use Rattle.wa_model.specs.Blocking.{Asker, Left, Note, an_entry, call_note, fault_of, inside, outermost, pause_of, poked, stack_at, store_at, the_start, with_outcomes}
-use Rattle.wa_model.specs.Machine.{Leads, Turn, goes, moves, stays, stops}
-use Rattle.wa_model.specs.Outside.{Answer, AnswerLine, Event, ended, paused}
+use Rattle.wa_model.specs.Machine.{Leads, goes, moves, stays}
+use Rattle.wa_model.specs.Outside.{Answer}
 use Rattle.wa_model.specs.Plan.{Outcome, Plan, given, refused}
-use Rattle.wa_model.specs.Protocol.{Exports, Held, aside, busy, calling, entering, exports_of, free, held_asked, held_given, held_pauses, held_tested, is_running, over, protocol, starting, store_held, unwinds, rewinds}
+use Rattle.wa_model.specs.Protocol.{Exports, Held, aside, busy, calling, entering, exports_of, free, held_asked, held_given, held_pauses, held_tested, is_running, over, protocol, starting, unwinds, rewinds}
 use Rattle.wa_model.specs.Store.{Store}
 use Rattle.wa_model.specs.View.{event_of}
-use Rattle.world_model.specs.World.{Device, Program, call_in, is_end}
+use Rattle.world_model.specs.World.{Device, Program, call_in}
 use Rattle.run_theory.proofs.Runs.{leads_beyond, leads_first, leads_on, leads_one}
 use Rattle.interp.specs.declared.instance.Instance.{Instance}
 use Rattle.interp.specs.Host.{code_in, store_in, waits_in}
@@ -33,7 +33,7 @@ use Rattle.pause_host.specs.declared.stages.Stage.{Stage}
 use Rattle.pause_host.specs.declared.stages.Stage.TheVariants as S
 use Rattle.pause_host.specs.declared.stages.Task.{Task}
 use Rattle.pause_host.specs.declared.stages.Task.TheVariants as T
-use Rattle.pause_host.specs.Moves.{AsksThere, Asks, CallComes, HasShortPokes, IsAsking, PausesSo}
+use Rattle.pause_host.specs.Moves.{AsksThere, Asks, CallComes, IsAsking, PausesSo}
 use Rattle.pause_host.specs.Programs.{end_at}
 use Rattle.pause_host.specs.Views.{end_of, is_pause, is_paused, is_starting, left_of, lines_in, place_in, starts}
 use Rattle.pause_host.proofs.Advancing.{ended_stage}

@@ -1,5 +1,5 @@
 -- What comes of the start function in the first strand's turn: of its call, and of the value that it is given.
-use Rattle.std.proofs.Common.{◌≡◌, ◌≤◌, ◌<◌, ◌-◌, ◌+◌, ℕ, suc, List, [], ◌∷◌, length, Option, true, refl, sym, ap, ◌∙◌, subst, arith}
+use Rattle.std.proofs.Common.{◌≡◌, ◌≤◌, ◌<◌, ◌-◌, ◌+◌, ℕ, List, [], ◌∷◌, length, Option, true, refl, sym, ap, ◌∙◌, subst, arith}
 use Rattle.wa_types.specs.Modules.{func_imports, func_sorts, func_type_at}
 use Rattle.wa_types.specs.Syntax.{Module}
 use Rattle.wa_model.specs.Blocking.{Left, Note, inside, note, outermost, resumed, the_start, with_outcomes}

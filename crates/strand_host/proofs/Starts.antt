@@ -1,5 +1,5 @@
 -- The start function in the first strand's turn: how it ends, and that it returns.
-use Rattle.std.proofs.Common.{◌≡◌, ℕ, ◌+◌, ◌-◌, ◌≤◌, ◌<◌, Bool, true, false, List, [], ◌∷◌, ◌++◌, length, Option, Some, None, Result, Ok, Err, IfOk, All, refl, sym, ap, ◌∙◌, subst, arith}
+use Rattle.std.proofs.Common.{◌≡◌, ℕ, ◌-◌, ◌≤◌, true, false, List, [], ◌∷◌, length, Result, Ok, Err, IfOk, refl, sym, ap, ◌∙◌, subst, arith}
 use Rattle.std.proofs.lemmas.Bool.{false≢true}
 use Rattle.wa_types.specs.Syntax.{Module}
 use Rattle.wa_types.specs.declared.values.Trap.{Trap}
@@ -32,13 +32,13 @@ use Rattle.pause_host.proofs.Holding.{holds_on}
 use Rattle.strand_laws.specs.StrandWorld.{StrandsInWorld}
 use Rattle.strand_laws.specs.Strands.{plan_of, strand_at}
 use Rattle.strand_laws.specs.ToldStrands.{ProgramTeller}
-use Rattle.strand_laws.specs.Woven.{Thread, ends_strand, last_event}
+use Rattle.strand_laws.specs.Woven.{ends_strand, last_event}
 use Rattle.strand_host.specs.declared.program.StrandProgram.{StrandProgram}
 use Rattle.strand_host.specs.declared.strands.Going.{Going}
 use Rattle.strand_host.specs.declared.strands.Strand.{Strand}
 use Rattle.strand_host.specs.declared.strands.StrandEvent.{StrandEvent}
-use Rattle.strand_host.specs.Standing.{AreWaiting, GoesSo, InTurn, IsNoTrap, LastMove, by_last_move, either_way, is_in_start}
-use Rattle.strand_host.specs.StrandPrograms.{AtPlace, InStart, InTurnAt, IsProgram, Row, Settles, Stock, TellsEvent, TurnAt, end_leads_to, leads_to, place_of, stock_of, world_strand}
+use Rattle.strand_host.specs.Standing.{AreWaiting, InTurn, IsNoTrap, LastMove, by_last_move, either_way, is_in_start}
+use Rattle.strand_host.specs.StrandPrograms.{AtPlace, InStart, InTurnAt, Settles, Stock, TellsEvent, TurnAt, end_leads_to, leads_to, stock_of, world_strand}
 use Rattle.strand_host.proofs.Events.{LandsSo, Laws, Told, ends, fit_of, lands_told, spends}
 use Rattle.strand_host.proofs.Rows.{row_stays}
 use Rattle.strand_host.proofs.StandingTurns.{turn_moves}

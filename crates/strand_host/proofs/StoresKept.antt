@@ -1,5 +1,5 @@
 -- Wherever a run under the protocol comes, its store fits and its memory is no shorter; an end is told over the store where all is over.
-use Rattle.std.proofs.Common.{◌≡◌, ℕ, zero, suc, ◌+◌, ◌≤◌, Bool, true, false, cond, eqb, ltb, List, [], ◌∷◌, ◌++◌, length, Option, Some, None, refl, sym, ap, ◌∙◌, subst, arith}
+use Rattle.std.proofs.Common.{◌≡◌, ℕ, suc, ◌+◌, ◌≤◌, Bool, true, false, cond, List, [], ◌∷◌, ◌++◌, length, Option, Some, None, refl, sym, ◌∙◌, subst, arith}
 use Rattle.std.specs.Prelude.{nat_lt, nat_eq}
 use Rattle.std.proofs.lemmas.Bool.{false≢true}
 use Rattle.wa_types.specs.declared.values.ValType.{ValType}
@@ -8,20 +8,18 @@ use Rattle.wa_types.specs.Syntax.{Func, Module}
 use Rattle.wa_types.specs.Frames.{Suspended}
 use Rattle.wa_types.specs.Validity.{Valid}
 use Rattle.wa_types.specs.Modules.{defined_at, func_imports, func_type_at}
-use Rattle.wa_types.specs.declared.values.Trap.TheVariants.{Import}
 use Rattle.wa_model.specs.declared.answers.Said.{Said}
 use Rattle.wa_model.specs.declared.answers.Said.TheVariants as SV
 use Rattle.wa_model.specs.declared.events.End.{End}
-use Rattle.wa_model.specs.declared.events.End.TheVariants.{Broken, Trapped, Done}
-use Rattle.wa_model.specs.Outside.{Answer, Poke, answered, returned, ended, paused}
+use Rattle.wa_model.specs.Outside.{Answer, Poke}
 use Rattle.wa_model.specs.Machine.{Turn, stops, goes, Leads, stays, moves}
 use Rattle.wa_model.specs.Store.{Store}
 use Rattle.wa_model.specs.Configuration.{Configuration}
 use Rattle.wa_model.specs.Step.{Next, steps, asks, returns, traps, stuck, step}
 use Rattle.wa_model.specs.Plan.{Entry, Plan, Outcome, given, refused}
-use Rattle.wa_model.specs.Blocking.{Note, note, value_of_results, fault_of, pause_of, poked, done_notes, import_traps, Task, the_start, an_entry, Left, with_outcomes, Asker, inside, outermost, store_at, in_start, stack_at, call_note, next_entry}
+use Rattle.wa_model.specs.Blocking.{Note, fault_of, pause_of, poked, done_notes, Task, the_start, an_entry, Left, with_outcomes, Asker, inside, outermost, store_at, in_start, stack_at, call_note, next_entry}
 use Rattle.wa_model.specs.Protocol.{Exports, exports_of, Phase, is_running, unwinds, rewinds, Then, give_zero, test_unwound, pause_there, call_again, test_rewound, give_answer, Held, free, starting, busy, calling, aside, entering, over, store_held}
-use Rattle.wa_model.specs.Protocol.{with_words, used_of, broken, held_on, held_back, held_given, held_pauses, held_resumed, held_tested, held_asked, trap_end, busy_step, is_state, answer_note, aside_back, aside_step, busy_enters, held_next, aside_called, held_start, protocol}
+use Rattle.wa_model.specs.Protocol.{with_words, broken, held_on, held_back, held_given, held_pauses, held_resumed, held_tested, held_asked, busy_step, is_state, aside_back, aside_step, busy_enters, held_next, aside_called, held_start, protocol}
 use Rattle.world_model.specs.World.{is_end}
 use Rattle.run_theory.specs.Fitting.{StoreFits, NextFits}
 use Rattle.run_theory.proofs.FittingSteps.{steps_fit}

@@ -1,14 +1,13 @@
 -- How a turn begins: the first one's with instantiation, and behind a turn that of the strand that is due first.
-use Rattle.std.proofs.Common.{arith, ◌≡◌, ◌<◌, ◌≤◌, ◌⊎◌, inl, inr, ℕ, zero, suc, ◌+◌, ◌-◌, List, [], ◌∷◌, ◌++◌, length, Option, Some, None, Bool, true, false, refl, sym, ap, ◌∙◌, subst, append-nil}
-use Rattle.std.specs.Prelude.{map, slice_get, slice_set}
+use Rattle.std.proofs.Common.{arith, ◌≡◌, ◌<◌, ◌≤◌, ◌⊎◌, inl, inr, ℕ, zero, suc, ◌-◌, List, [], ◌∷◌, ◌++◌, length, Option, Some, None, Bool, true, false, refl, sym, ap, ◌∙◌, subst, append-nil}
+use Rattle.std.specs.Prelude.{slice_get, slice_set}
 use Rattle.wa_model.specs.declared.events.End.{End}
-use Rattle.wa_model.specs.declared.events.End.TheVariants as E
 use Rattle.wa_model.specs.Blocking as B
 use Rattle.wa_model.specs.Blocking.{Note, all_left, done_notes, no_store, note}
 use Rattle.wa_model.specs.Instantiation.{Opening, fails_as, opening, opens}
 use Rattle.wa_model.specs.Machine.{Ran, stays}
 use Rattle.wa_model.specs.Outside.{Event, ended}
-use Rattle.wa_model.specs.Plan.{Entry, Plan}
+use Rattle.wa_model.specs.Plan.{Entry}
 use Rattle.wa_model.specs.Protocol.{Held, exports_of, held_begun, held_on, over, starting as starting_at, store_held}
 use Rattle.wa_model.specs.Store.{Store}
 use Rattle.wa_types.specs.Syntax.{Module}
@@ -20,25 +19,22 @@ use Rattle.strand_host.specs.declared.strands.StrandEvent.{StrandEvent}
 use Rattle.strand_host.specs.StrandTelling.{TellsStrandNote}
 use Rattle.world_model.specs.World.{Device}
 use Rattle.world_laws.proofs.Places.{set_here, set_there}
-use Rattle.run_theory.specs.Fitting.{StoreFits}
 use Rattle.run_laws.specs.FittingStates.{HeldFits}
 use Rattle.event_order.specs.Dues.{IsLeast}
 use Rattle.interp.specs.declared.instance.Instance.{Instance}
-use Rattle.interp.specs.Host.{code_in, store_in, waits_in}
+use Rattle.interp.specs.Host.{store_in, waits_in}
 use Rattle.host_laws.specs.Places.{Place, stands}
-use Rattle.host_laws.specs.Stretch.{Stretch}
 use Rattle.pause_host.specs.Holding.{HeldHolds}
-use Rattle.pause_host.specs.Views.{free_place, left_of, place_in}
-use Rattle.pause_host.specs.declared.stages.Stage.TheVariants as Stage
+use Rattle.pause_host.specs.Views.{left_of, place_in}
 use Rattle.strand_laws.proofs.Blocks.{none_is, set_length, the_same}
 use Rattle.strand_laws.specs.StrandWorld.{StrandsInWorld}
-use Rattle.strand_laws.specs.Strands.{StrandProgram as Strands, held_wakes, plan_of, strand_at}
-use Rattle.strand_laws.specs.ToldStrands.{ProgramTeller, StrandTeller, having_told, starting, told_on}
+use Rattle.strand_laws.specs.Strands.{held_wakes}
+use Rattle.strand_laws.specs.ToldStrands.{ProgramTeller, StrandTeller, having_told, told_on}
 use Rattle.strand_laws.specs.Weaving.{IsDueFirst, due_in, is_ready, is_there}
 use Rattle.strand_laws.specs.Woven.{Thread, ends_strand, last_event}
 use Rattle.strand_host.specs.declared.strands.Strand.{Strand}
-use Rattle.strand_host.specs.StrandPrograms.{AtPlace, BetweenAt, EndedAt, FreshAt, IsProgram, IsStrand, NotesFit, OpensAt, Row, RowIs, StartsAt, Stock, TurnAt, WaitsWell, place_of, FollowsStrands, TellsEvent, memory_of, stock_of}
-use Rattle.strand_host.specs.Standing.{AreWaiting, GoesSo, InTurn, IsNoTrap, WholeStory, all_at_start, as_before, dues_of_strands, either_way, is_in_start, opened_first, unless_over}
+use Rattle.strand_host.specs.StrandPrograms.{AtPlace, BetweenAt, EndedAt, FreshAt, IsProgram, NotesFit, OpensAt, Row, RowIs, StartsAt, Stock, TurnAt, place_of, FollowsStrands, TellsEvent, memory_of, stock_of}
+use Rattle.strand_host.specs.Standing.{AreWaiting, InTurn, IsNoTrap, all_at_start, as_before, dues_of_strands, either_way, is_in_start, opened_first, unless_over}
 use Rattle.strand_host.proofs.Rows.{row_stays}
 use Rattle.strand_host.proofs.StandingEnds.{program_ends}
 use Rattle.strand_host.proofs.StandingNext.{next_turn_begins, ready_teller}

@@ -1,5 +1,5 @@
 -- Where stages stand: what waits there to be told, and over what store.
-use Rattle.std.proofs.Common.{arith, ◌≡◌, ◌≤◌, ℕ, Bool, true, false, List, [], ◌∷◌, length, Option, Some, None, refl, sym, ap, ◌∙◌, subst}
+use Rattle.std.proofs.Common.{arith, ◌≡◌, ◌≤◌, ℕ, Bool, true, false, List, [], ◌∷◌, length, Option, refl, subst}
 use Rattle.std.specs.Prelude.{if◌then◌else◌}
 use Rattle.wa_types.specs.Syntax.{Module}
 use Rattle.wa_types.specs.declared.values.Value.{Value}
@@ -21,7 +21,7 @@ use Rattle.interp.specs.Instance.{Waits}
 use Rattle.host_laws.specs.Places.{Place, has_ended, nowhere, stands}
 use Rattle.host_laws.specs.Stretch.{is_over}
 use Rattle.pause_host.specs.Holding.{are_inside, is_held}
-use Rattle.pause_host.specs.Views.{answered_at, answering, entry_of, free_place, giving, pausing, place_in, with_asker}
+use Rattle.pause_host.specs.Views.{answering, entry_of, giving, pausing, place_in, with_asker}
 use Rattle.pause_host.proofs.Holding.{poked_longer, words_longer}
 use Rattle.pause_host.specs.declared.stages.Task.{Task}
 use Rattle.pause_host.specs.declared.stages.Task.TheVariants as T

@@ -1,5 +1,5 @@
 -- What a program with strands is made of, and as which program of a world.
-use Rattle.std.specs.Prelude.{◌≡◌, ◌≤◌, ◌<◌, ◌^◌, ℕ, zero, suc, ◌++◌, if◌then◌else◌, Bool, List, [], ◌∷◌, length, map, Option, Some, None, All, Result, Ok, Err, slice_get}
+use Rattle.std.specs.Prelude.{◌≡◌, ◌≤◌, ◌<◌, ◌^◌, ℕ, zero, suc, ◌++◌, if◌then◌else◌, Bool, List, [], ◌∷◌, length, map, Option, Some, None, All, Result, Ok}
 use Rattle.std.specs.List.{list_any}
 use Rattle.std.specs.Option.{option_map}
 use Rattle.wa_model.specs.declared.answers.Area.{Area}

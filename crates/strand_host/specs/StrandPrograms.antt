@@ -1,5 +1,5 @@
 -- A program with strands as plain data, and what it has told.
-use Rattle.std.specs.Prelude.{◌⊎◌, ◌≡◌, ◌<◌, ◌≤◌, ◌+◌, ◌-◌, ◌∷◌, ℕ, zero, suc, List, [], length, map, Option, Some, None, All, Bool, true, false, Result, Ok, Err, slice_get, slice_set, if◌then◌else◌}
+use Rattle.std.specs.Prelude.{◌⊎◌, ◌≡◌, ◌<◌, ◌≤◌, ◌+◌, ◌-◌, ◌∷◌, ℕ, List, [], length, map, Option, Some, None, All, Bool, true, false, Result, Ok, Err, slice_get, slice_set}
 use Rattle.std.specs.Option.{option_map, unwrap_or}
 use Rattle.wa_types.specs.declared.values.Value.{Value}
 use Rattle.wa_types.specs.Syntax.{Module}

@@ -1,4 +1,4 @@
-use Rattle.std.proofs.Common.{◌-◌, All, None, map, refl, sym, ◌∙◌, ap, subst}
+use Rattle.std.proofs.Common.{◌-◌, All, None, map, sym, ◌∙◌, ap, subst}
 use Rattle.wa_model.specs.Protocol.{exports_of}
 use Rattle.interp.specs.Host.{code_in, store_in, waits_in}
 use Rattle.device_port.specs.Listed.{of_all}

@@ -1,4 +1,4 @@
-use Rattle.std.proofs.Common.{◌≡◌, ◌≤◌, ◌<◌, ◌-◌, refl, arith}
+use Rattle.std.proofs.Common.{◌≤◌, ◌<◌, ◌-◌, arith}
 use Rattle.wa_types.specs.Modules.{func_imports}
 use Rattle.strand_host.specs.StrandPrograms.{stock_of}
 use Rattle.strand_host.proofs.StartTurns.{import_ran, own_ran}

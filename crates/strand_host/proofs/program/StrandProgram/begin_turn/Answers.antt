@@ -1,4 +1,4 @@
-use Rattle.std.proofs.Common.{Option, Some, None, false, sym, ap, ◌∙◌, subst, slice_set, arith}
+use Rattle.std.proofs.Common.{Option, Some, false, sym, ap, ◌∙◌, subst, slice_set, arith}
 use Rattle.event_order.specs.Dues.{IsLeast}
 use Rattle.many_host.proofs.TurnPlaces.{stands_at}
 use Rattle.strand_host.specs.declared.strands.Strand.{Strand}

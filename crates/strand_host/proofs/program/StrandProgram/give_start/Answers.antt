@@ -1,4 +1,4 @@
-use Rattle.std.proofs.Common.{◌≡◌, ◌-◌, true, arith}
+use Rattle.std.proofs.Common.{◌-◌, true, arith}
 use Rattle.interp.specs.Host.{code_in, store_in, waits_in}
 use Rattle.pause_host.specs.Views.{left_of}
 use Rattle.pause_host.specs.declared.stages.Stage.TheVariants as Stage

@@ -5,7 +5,7 @@ use Rattle.wa_model.specs.Instantiation.{opening}
 use Rattle.run_theory.specs.Fitting.{StoreFits, global_types, types_of}
 use Rattle.interp.specs.Host.{store_in}
 use Rattle.interp_state.specs.Faults.{FailsAs}
-use Rattle.strand_host.specs.StrandPrograms.{FreshAt, OpensAt, stock_of}
+use Rattle.strand_host.specs.StrandPrograms.{stock_of}
 use Rattle.strand_host.proofs.program.StrandProgram.open.Goals as goal
 
 pub returns-in-Ok-clause-next : goal.returns-in-Ok-clause-next

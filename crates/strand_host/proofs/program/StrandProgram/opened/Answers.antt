@@ -1,4 +1,4 @@
-use Rattle.std.proofs.Common.{Option, Some, None, false, sym, ap, ◌∙◌, subst, slice_set, arith}
+use Rattle.std.proofs.Common.{Option, Some, false, sym, ap, ◌∙◌, subst, slice_set}
 use Rattle.many_host.proofs.TurnPlaces.{stands_at}
 use Rattle.strand_host.specs.declared.strands.Strand.{Strand}
 use Rattle.strand_host.specs.StrandPrograms.{StartsAt, TurnAt, stock_of}

@@ -1,12 +1,9 @@
 use Rattle.std.proofs.Common.{true, false, not, ◌≡◌, refl, sym, ap, ◌∙◌, subst}
 use Rattle.std.proofs.lemmas.Bool.{false≢true}
-use Rattle.wa_model.specs.Outside.{Event}
-use Rattle.wa_model.specs.View.{event_of}
 use Rattle.interp.specs.Host.{code_in, store_in, waits_in}
 use Rattle.pause_host.specs.Views.{left_of}
 use Rattle.pause_host.specs.declared.stages.Stage.TheVariants as S
 use Rattle.pause_host.proofs.Callings.{told_inside}
-use Rattle.strand_host.specs.declared.strands.StrandEvent.{StrandEvent}
 use Rattle.strand_host.specs.StrandPrograms.{TellsEvent, set_to, stock_of}
 use Rattle.strand_host.proofs.GoingOn.{hosts}
 use Rattle.strand_host.proofs.StartAnswers.{answer_told}

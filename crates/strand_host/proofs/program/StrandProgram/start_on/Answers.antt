@@ -1,6 +1,5 @@
-use Rattle.std.proofs.Common.{true, ◌≡◌, refl, sym, ap, ◌∙◌, subst}
+use Rattle.std.proofs.Common.{refl}
 use Rattle.pause_host.specs.declared.stages.Stage.TheVariants as S
-use Rattle.pause_host.specs.Views.{is_starting}
 use Rattle.strand_host.specs.StrandPrograms.{stock_of}
 use Rattle.strand_host.proofs.StartAnswers.{at_giving, at_stage, both_ok, ending_told}
 use Rattle.strand_host.proofs.TheLaws.{all_laws}
