@@ -52,6 +52,8 @@ mod showing;
 #[cfg(test)]
 mod snapshots;
 #[cfg(test)]
+mod strands;
+#[cfg(test)]
 mod texts;
 #[cfg(test)]
 mod trees;
