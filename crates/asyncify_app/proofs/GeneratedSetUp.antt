@@ -1,6 +1,7 @@
 -- A program over a generated module that was rewritten is set up: its area, the five exports and its entry are lawful.
 use Rattle.std.proofs.Common.{arith, ◌≡◌, ◌≤◌, ◌<◌, ℕ, zero, suc, ◌+◌, ◌-◌, List, [], ◌∷◌, ◌++◌, length, drop, map, Option, Some, None, Ok, refl, ap, ◌∙◌, subst, ⊎_elim}
 use Rattle.std.specs.Prelude.{Bool, true, codes, ◌&&◌, nat_le, nat_lt, if◌then◌else◌, slice_get}
+use Rattle.std.specs.Option.{option_or}
 use Rattle.std.specs.List.{filter_map, find}
 use Rattle.std.proofs.lemmas.Bool.{le-leb}
 use Rattle.std.proofs.lemmas.List.{length-drop, length-replicate}
@@ -24,7 +25,6 @@ use Rattle.wa_model.specs.Step.{same_func_type}
 use Rattle.run_theory.proofs.FittingNames.{defined_type}
 use Rattle.run_theory.proofs.Runs.{lt_false}
 use Rattle.run_laws.proofs.Exported.{rewritten_exported}
-use Rattle.script_model.specs.ScriptLines.{or_else}
 use Rattle.host_setup.specs.SetUp.{Fault, NamedEntry, Needed, area_bad, all_told, are_args, entries_fault, entry_funcs, fault_at, first_fault, first_false, func_in, func_named, have_args, is_area_in, is_defined_as, is_there, least_pages, module_fault, needed, no_export, set_up, unless_fault}
 use Rattle.gen_module.specs.Generated.{generated, generated_func, one_to_one}
 use Rattle.gen_module.specs.GeneratedRuns.{all_listed}
@@ -185,8 +185,8 @@ module _ (k : ℕ) (p : Module) (r : Rewrites (generated (suc k)) all_listed p) 
 
   no_fault : first_fault p page entries ≡ None
   no_fault =
-      ap (λ (pages : ℕ). or_else (if is_area_in pages page then None else Some area_bad) (module_fault p entries)) pages_are
-      ∙ ap (λ (bs : List Bool). or_else (fault_at no_export (first_false bs)) (entries_fault (func_imports p) (entry_funcs p entries) (have_args p entries))) five_there
+      ap (λ (pages : ℕ). option_or (if is_area_in pages page then None else Some area_bad) (module_fault p entries)) pages_are
+      ∙ ap (λ (bs : List Bool). option_or (fault_at no_export (first_false bs)) (entries_fault (func_imports p) (entry_funcs p entries) (have_args p entries))) five_there
       ∙ ap (λ (imports : ℕ). entries_fault imports (entry_funcs p entries) (have_args p entries)) one_import
       ∙ ap (λ (fs : List (Option ℕ)). entries_fault 1 fs (have_args p entries)) entry_is
       ∙ ap (λ (ts : List Bool). entries_fault 1 (Some (suc k) ∷ []) ts) args_are

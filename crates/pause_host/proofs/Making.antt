@@ -2,7 +2,7 @@
 use Rattle.std.proofs.Common.{◌≡◌, ◌≤◌, ◌<◌, ℕ, zero, suc, ◌+◌, ◌++◌, List, [], ◌∷◌, length, map, Option, Some, None, Ok, Bool, true, false, cond, not, All, nat_le, refl, sym, ap, ◌∙◌, subst, arith}
 use Rattle.std.specs.Prelude.{◌&&◌, nat_lt, slice_get, codes, position}
 use Rattle.std.specs.List.{find, filter_map, cons_option, list_all, prefix_len, position_or_len}
-use Rattle.std.specs.Option.{is_none, unwrap_or}
+use Rattle.std.specs.Option.{is_none, option_or, unwrap_or}
 use Rattle.std.proofs.lemmas.Bool.{leb-true, ltb-false, ltb-true}
 use Rattle.std.proofs.lemmas.List.{length-map}
 use Rattle.std.proofs.lemmas.List.Elements.{All-nil, All-cons}
@@ -21,7 +21,6 @@ use Rattle.wa_types.specs.Modules.{func_imports, func_sorts, func_type_at, defin
 use Rattle.wa_types.specs.Validity.{Valid, all_below, exported, same_space, same_name}
 use Rattle.wa_ops.specs.Operate.{are_of}
 use Rattle.wa_model.specs.declared.answers.Area.{Area}
-use Rattle.script_model.specs.ScriptLines.{or_else}
 use Rattle.wa_model.specs.Step.{same_func_type}
 use Rattle.run_theory.specs.Fitting.{types_of}
 use Rattle.wa_model.specs.Protocol.{exported_as, index_of}
@@ -123,7 +122,7 @@ module _ (p : Module) (v : Valid p) where
   no_fault_at fault None e = refl
   no_fault_at fault (Some i) e = cc
 
-  neither : (a b : Option Fault) → or_else a b ≡ None → (a ≡ None) × (b ≡ None)
+  neither : (a b : Option Fault) → option_or a b ≡ None → (a ≡ None) × (b ≡ None)
   neither None b e = (refl, e)
   neither (Some f) b e = cc
 

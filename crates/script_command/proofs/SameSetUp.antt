@@ -1,13 +1,13 @@
 -- What a program is given over a module, or which rule a line of it breaks, doesn't depend on the module's code.
 use Rattle.std.proofs.Common.{◌≡◌, ◌∙◌, ℕ, List, [], ◌∷◌, map, Option, Some, None, Bool, Result, refl, sym, ap}
 use Rattle.std.specs.Prelude.{nat_le, ◌&&◌, ◌++◌, if◌then◌else◌, slice_get}
+use Rattle.std.specs.Option.{option_or}
 use Rattle.wa_types.specs.declared.values.Value.{Value}
 use Rattle.wa_types.specs.Modules.{func_imports, func_type_at, imported, imported_func, or_empty, type_at}
 use Rattle.wa_types.specs.Syntax.{FuncType, Func, Module}
 use Rattle.wa_ops.specs.Operate.{are_of}
 use Rattle.wa_model.specs.declared.answers.Area.{Area}
 use Rattle.script_model.specs.Script.{ProgramText}
-use Rattle.script_model.specs.ScriptLines.{or_else}
 use Rattle.wa_model.specs.Step.{same_func_type}
 use Rattle.host_setup.specs.SetUp.{NamedEntry, Fault, all_told, area_bad, are_args, entries_fault, entry_func, entry_funcs, fault_at, first_false, func_named, have_args, is_area_in, is_defined_as, is_there, least_pages, needed, no_export, set_up, unless_fault}
 use Rattle.script_setup.specs.SetUpRules.{named_entry, set_up_rules, told_funcs, with_lines}
@@ -44,8 +44,8 @@ module _ (p : Module) where
   abbrev by_tests : Area → List NamedEntry → (there have : List Bool) → Result (List ℕ) Fault
   by_tests area entries there have =
       unless_fault
-      (or_else (if is_area_in (least_pages p) area then None else Some area_bad)
-      (or_else (fault_at no_export (first_false there)) (entries_fault (func_imports p) (entry_funcs p entries) have)))
+      (option_or (if is_area_in (least_pages p) area then None else Some area_bad)
+      (option_or (fault_at no_export (first_false there)) (entries_fault (func_imports p) (entry_funcs p entries) have)))
       (all_told (entry_funcs p entries))
 
   set_up_same : (area : Area) (entries : List NamedEntry) → set_up p area entries ≡ set_up (outline p) area entries

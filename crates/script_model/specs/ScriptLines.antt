@@ -1,6 +1,6 @@
 -- What a line of a script says.
 use Rattle.std.specs.Prelude.{ℕ, ◌+◌, ◌-◌, ◌*◌, ◌^◌, ◌==◌, nat_lt, nat_le, ◌&&◌, ◌||◌, if◌then◌else◌, List, [], ◌∷◌, ◌++◌, length, map, Option, Some, None, Bool, true, false, Result, Ok, Err, codes}
-use Rattle.std.specs.Option.{option_map}
+use Rattle.std.specs.Option.{option_map, option_or}
 use Rattle.std.specs.Str.{bytes_eq, is_utf8}
 use Rattle.std.specs.List.{slice_split, filter, list_all, find}
 use Rattle.std.specs.Fmt.{decimal}
@@ -141,14 +141,9 @@ abbrev pub i64_in : Option (List ℕ) → Option Value
 i64_in None = None
 i64_in (Some digits) = option_map V.I64 (integer_in 64 digits)
 
--- the first of two that is told
-abbrev pub or_else : {A : Type 0} → Option A → Option A → Option A
-or_else (Some x) other = Some x
-or_else None other = other
-
 -- `i32:N` or `i64:N`
 abbrev pub value_in : List ℕ → Option Value
-value_in word = or_else (i32_in (behind (codes "i32:") word)) (i64_in (behind (codes "i64:") word))
+value_in word = option_or (i32_in (behind (codes "i32:") word)) (i64_in (behind (codes "i64:") word))
 
 -- from 1 to 65,536 bytes in hexadecimal digits
 abbrev pub hex_in : List ℕ → Option (List ℕ)

@@ -1,8 +1,9 @@
 -- Programs that are told statement by statement are the programs that groups of statements tell.
 use Rattle.std.proofs.Common.{◌≡◌, ℕ, ◌||◌, Bool, true, false, Option, Some, None, Result, Ok, Err, List, [], ◌∷◌, ◌++◌, map, sym, ap, ◌∙◌, refl, append_assoc, append-nil, slice_get}
+use Rattle.std.specs.Option.{option_or}
 use Rattle.std.specs.List.{list_any}
 use Rattle.script_model.specs.Script.{ProgramText, ScriptFault, breaks}
-use Rattle.script_model.specs.ScriptLines.{Statement, begins_program, lists_imports, ignores_imports, saves, has_area, has_steps, sets_global, binds, enters, answers, shows, detaches, has_mailbox, or_else}
+use Rattle.script_model.specs.ScriptLines.{Statement, begins_program, lists_imports, ignores_imports, saves, has_area, has_steps, sets_global, binds, enters, answers, shows, detaches, has_mailbox}
 use Rattle.script_model.specs.ScriptText.{Numbered, Group, AreaText, told_by, lines_by, list_of_statement, is_ignore, live_of_statement, area_of, steps_of, global_of, bind_of, entry_of}
 use Rattle.script_model.specs.ScriptText.{answer_of, show_of, with_program, programs_of}
 use Rattle.script_reader.specs.Drafts.{Draft, begun, more_told, told_with, one_more, closed}
@@ -23,11 +24,11 @@ abbrev told_more : Draft → List Numbered → Draft
 told_more d ss = record {
   line = d.line;
   path = d.path;
-  list = or_else d.list (slice_get (told_by list_of_statement ss) 0);
+  list = option_or d.list (slice_get (told_by list_of_statement ss) 0);
   ignore_imports = d.ignore_imports || list_any (λ (s : Numbered). is_ignore s.says) ss;
-  policy_live = or_else d.policy_live (slice_get (told_by live_of_statement ss) 0);
-  area = or_else d.area (slice_get (lines_by area_of ss) 0);
-  steps = or_else d.steps (slice_get (told_by steps_of ss) 0);
+  policy_live = option_or d.policy_live (slice_get (told_by live_of_statement ss) 0);
+  area = option_or d.area (slice_get (lines_by area_of ss) 0);
+  steps = option_or d.steps (slice_get (told_by steps_of ss) 0);
   globals = d.globals ++ lines_by global_of ss;
   binds = d.binds ++ lines_by bind_of ss;
   entries = d.entries ++ lines_by entry_of ss;
@@ -35,11 +36,11 @@ told_more d ss = record {
   shows = d.shows ++ lines_by show_of ss;
 }
 
-or_else_none : {A : Type 0} (o : Option A) → or_else o None ≡ o
+or_else_none : {A : Type 0} (o : Option A) → option_or o None ≡ o
 or_else_none None = refl
 or_else_none (Some x) = refl
 
-or_else_one : {A : Type 0} (o : Option A) (x : A) (xs : List A) → or_else (or_else o (Some x)) (slice_get xs 0) ≡ or_else o (slice_get (x ∷ xs) 0)
+or_else_one : {A : Type 0} (o : Option A) (x : A) (xs : List A) → option_or (option_or o (Some x)) (slice_get xs 0) ≡ option_or o (slice_get (x ∷ xs) 0)
 or_else_one None x xs = refl
 or_else_one (Some y) x xs = refl
 

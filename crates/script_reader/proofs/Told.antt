@@ -1,14 +1,14 @@
 -- Reading line by line comes to the script that the statements of all lines tell.
 use Rattle.std.proofs.Common.{arith, ◌≡◌, ℕ, suc, ◌+◌, ◌<◌, ◌≤◌, not, ◌&&◌, ◌||◌, nat_eq, nat_le, Bool, true, false, cond, Option, Some, None, Result, Ok, Err, List, [], ◌∷◌, ◌++◌}
 use Rattle.std.proofs.Common.{map, length, sym, ap, ◌∙◌, subst, refl, append_assoc, append-nil, if◌then◌else◌, lit≤}
-use Rattle.std.specs.Option.{is_some}
+use Rattle.std.specs.Option.{is_some, option_or}
 use Rattle.std.specs.List.{filter, list_any, cons_option}
 use Rattle.std.specs.Str.Lines.{lines}
 use Rattle.std.specs.Str.{bytes_eq}
 use Rattle.std.proofs.lemmas.Bool.{leb-true, leb-false, eq-eqb, ne_eqb}
 use Rattle.std.proofs.lemmas.List.Folds.{list_any-append}
 use Rattle.script_model.specs.Script.{DetachText, MailboxText, Script, ScriptFault, breaks, too_many}
-use Rattle.script_model.specs.ScriptLines.{Statement, begins_program, lists_imports, ignores_imports, saves, has_area, has_steps, sets_global, binds, enters, answers, shows, detaches, has_mailbox, or_else}
+use Rattle.script_model.specs.ScriptLines.{Statement, begins_program, lists_imports, ignores_imports, saves, has_area, has_steps, sets_global, binds, enters, answers, shows, detaches, has_mailbox}
 use Rattle.script_model.specs.ScriptLines.{line_says}
 use Rattle.script_model.specs.ScriptText.{is_program, is_detach, is_mailbox, declares, is_doubled, mailbox_of, lines_by, tells_imports, tells_policy, tells_area, tells_steps, in_program, is_repeated, has_bad_list, is_early, is_one_too_many, fault_of}
 use Rattle.script_model.specs.ScriptText.{Numbered, onto, unless_fault, with_line as with_told, statements}
@@ -62,11 +62,11 @@ record IsOther (s : Statement) : Type 0 where
   repeated : (told : List Statement) (d : Draft) → Tells told d → is_repeated s told ≡ repeats s d
   tells : (line : ℕ) (told : List Statement) (d : Draft) → Tells told d → Tells (s ∷ told) (more_told line s d)
 
-some_or_else : {A : Type 0} (o : Option A) (x : A) → true ≡ is_some (or_else o (Some x))
+some_or_else : {A : Type 0} (o : Option A) (x : A) → true ≡ is_some (option_or o (Some x))
 some_or_else None x = refl
 some_or_else (Some y) x = refl
 
-list_or : {A : Type 0} (o : Option A) (x : A) (b : Bool) → true ≡ (is_some (or_else o (Some x)) || b)
+list_or : {A : Type 0} (o : Option A) (x : A) (b : Bool) → true ≡ (is_some (option_or o (Some x)) || b)
 list_or None x b = refl
 list_or (Some y) x b = refl
 

@@ -1,11 +1,11 @@
 -- What is known of a script while its lines are read: the program that is being told, and those told before it.
 use Rattle.std.specs.Prelude.{ℕ, suc, ◌+◌, nat_le, ◌||◌, if◌then◌else◌, List, [], ◌∷◌, ◌++◌, Option, Some, None, Bool, true, false, Result, Ok, Err}
-use Rattle.std.specs.Option.{unwrap_or, is_some}
+use Rattle.std.specs.Option.{is_some, option_or, unwrap_or}
 use Rattle.std.specs.List.{list_any}
 use Rattle.std.specs.Str.{bytes_eq}
 use Rattle.wa_model.specs.Outside.{AnswerLine}
 use Rattle.script_model.specs.Script.{GlobalText, BindText, EntryText, ShowText, DetachText, MailboxText, ProgramText, Script, ScriptFault, breaks, too_many}
-use Rattle.script_model.specs.ScriptLines.{Statement, begins_program, lists_imports, ignores_imports, saves, has_area, has_steps, sets_global, binds, enters, answers, shows, detaches, has_mailbox, or_else}
+use Rattle.script_model.specs.ScriptLines.{Statement, begins_program, lists_imports, ignores_imports, saves, has_area, has_steps, sets_global, binds, enters, answers, shows, detaches, has_mailbox}
 use Rattle.script_model.specs.ScriptLines.{line_says}
 use Rattle.script_model.specs.ScriptText.{AreaText, default_steps, most_programs, has_bad_list, with_programs}
 
@@ -43,11 +43,11 @@ begun line path = record {
 
 -- a statement more of a program
 abbrev pub more_told : (line : ℕ) → Statement → Draft → Draft
-more_told line (lists_imports list) d = record d { list = or_else d.list (Some list) }
+more_told line (lists_imports list) d = record d { list = option_or d.list (Some list) }
 more_told line ignores_imports d = record d { ignore_imports = true }
-more_told line (saves live) d = record d { policy_live = or_else d.policy_live (Some live) }
-more_told line (has_area at len) d = record d { area = or_else d.area (Some (record { line = line; area = record { at = at; len = len } })) }
-more_told line (has_steps n) d = record d { steps = or_else d.steps (Some n) }
+more_told line (saves live) d = record d { policy_live = option_or d.policy_live (Some live) }
+more_told line (has_area at len) d = record d { area = option_or d.area (Some (record { line = line; area = record { at = at; len = len } })) }
+more_told line (has_steps n) d = record d { steps = option_or d.steps (Some n) }
 more_told line (sets_global name value) d = record d { globals = d.globals ++ record { line = line; name = name; value = value } ∷ [] }
 more_told line (binds import device) d = record d { binds = d.binds ++ record { line = line; import = import; device = device } ∷ [] }
 more_told line (enters name args) d = record d { entries = d.entries ++ record { line = line; name = name; args = args } ∷ [] }

@@ -5,7 +5,7 @@ use Rattle.std.specs.Str.{bytes_eq}
 use Rattle.std.specs.Borrow.{Bor}
 use Rattle.std.specs.BTreeMap.{BTreeMap, UpdatesBy}
 use Rattle.std.specs.Cmp.Lexicographic.{slice_cmp}
-use Rattle.std.specs.Option.{option_map}
+use Rattle.std.specs.Option.{option_map, option_or}
 use Rattle.std.specs.Ordering.{nat_cmp}
 use Rattle.std.proofs.lemmas.List.{map_more, take_all}
 use Rattle.std.proofs.lemmas.Map.Text.{btree_map_updates_str}
@@ -14,7 +14,6 @@ use Rattle.wa_types.specs.declared.syntax.Import.{Import}
 use Rattle.wa_types.specs.Modules.{imported_func}
 use Rattle.wa_types.specs.Pausing.{joined_name}
 use Rattle.script_model.specs.Script.{BindText}
-use Rattle.script_model.specs.ScriptLines.{or_else}
 use Rattle.script_reader.specs.declared.script.BindText.{BindText as BindValue}
 use Rattle.script_reader.specs.Views.{bind_of}
 use Rattle.script_setup.specs.Bindings.{bound_imports, last_device, where_func}
@@ -42,14 +41,14 @@ same_devices f h (x ∷ xs) e =
 
 last_more : (name : List ℕ) (bs : List BindText) (b : BindText) → last_device name (bs ++ b ∷ []) ≡ (if bytes_eq b.import name then Some b.device else last_device name bs)
 last_more name [] b = by_test (bytes_eq b.import name) where
-  by_test : (t : Bool) → or_else None (if t then Some b.device else None) ≡ (if t then Some b.device else None)
+  by_test : (t : Bool) → option_or None (if t then Some b.device else None) ≡ (if t then Some b.device else None)
   by_test true = refl
   by_test false = refl
-last_more name (x ∷ bs) b = ap (λ (o : Option (List ℕ)). or_else o (own x)) (last_more name bs b) ∙ by_test (bytes_eq b.import name) where
+last_more name (x ∷ bs) b = ap (λ (o : Option (List ℕ)). option_or o (own x)) (last_more name bs b) ∙ by_test (bytes_eq b.import name) where
   own : BindText → Option (List ℕ)
   own y = if bytes_eq y.import name then Some y.device else None
 
-  by_test : (t : Bool) → or_else (if t then Some b.device else last_device name bs) (own x) ≡ (if t then Some b.device else or_else (last_device name bs) (own x))
+  by_test : (t : Bool) → option_or (if t then Some b.device else last_device name bs) (own x) ≡ (if t then Some b.device else option_or (last_device name bs) (own x))
   by_test true = refl
   by_test false = refl
 

@@ -9,7 +9,7 @@ use Rattle.std.specs.declared.alloc.Global.{Global}
 use Rattle.std.specs.Borrow.{Bor}
 use Rattle.std.specs.BTreeMap.{BTreeMap, UpdatesBy, get_by_text}
 use Rattle.std.specs.Cmp.Lexicographic.{slice_cmp}
-use Rattle.std.specs.Option.{unwrap_or}
+use Rattle.std.specs.Option.{option_or, unwrap_or}
 use Rattle.std.specs.Ordering.{nat_cmp}
 use Rattle.std.specs.String.{string_bytes, string_cmp}
 use Rattle.std.proofs.lemmas.Map.Text.{btree_map_updates_str, btree_map_updates_text}
@@ -24,7 +24,6 @@ use Rattle.wa_types.specs.Modules.{imported_global}
 use Rattle.wa_types.specs.Pausing.{joined_name}
 use Rattle.wa_types.specs.Typing.{GlobalType, type_of}
 use Rattle.script_model.specs.Script.{GlobalText}
-use Rattle.script_model.specs.ScriptLines.{or_else}
 use Rattle.script_reader.specs.declared.script.GlobalText.{GlobalText as GlobalValue}
 use Rattle.script_reader.specs.Views.{global_of}
 use Rattle.script_setup.specs.declared.globals.Types.{Types}
@@ -77,14 +76,14 @@ lawful_is_set imports g = by_value g.value where
 
 last_more : (name : List ℕ) (gs : List GlobalText) (g : GlobalText) → last_value name (gs ++ g ∷ []) ≡ (if bytes_eq g.name name then Some g.value else last_value name gs)
 last_more name [] g = by_test (bytes_eq g.name name) where
-  by_test : (b : Bool) → or_else None (if b then Some g.value else None) ≡ (if b then Some g.value else None)
+  by_test : (b : Bool) → option_or None (if b then Some g.value else None) ≡ (if b then Some g.value else None)
   by_test true = refl
   by_test false = refl
-last_more name (x ∷ gs) g = ap (λ (o : Option Value). or_else o (own x)) (last_more name gs g) ∙ by_test (bytes_eq g.name name) where
+last_more name (x ∷ gs) g = ap (λ (o : Option Value). option_or o (own x)) (last_more name gs g) ∙ by_test (bytes_eq g.name name) where
   own : GlobalText → Option Value
   own y = if bytes_eq y.name name then Some y.value else None
 
-  by_test : (b : Bool) → or_else (if b then Some g.value else last_value name gs) (own x) ≡ (if b then Some g.value else or_else (last_value name gs) (own x))
+  by_test : (b : Bool) → option_or (if b then Some g.value else last_value name gs) (own x) ≡ (if b then Some g.value else option_or (last_value name gs) (own x))
   by_test true = refl
   by_test false = refl
 

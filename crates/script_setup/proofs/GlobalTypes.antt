@@ -2,7 +2,7 @@
 use Rattle.std.proofs.Common.{◌≡◌, ℕ, suc, ◌+◌, List, [], ◌∷◌, length, map, Option, Some, None, Bool, true, false, ◌||◌, ◌&&◌, not, cond, ap, sym, ◌∙◌, refl, if◌then◌else◌}
 use Rattle.std.proofs.Common.{position, arith, nat_lt, Result, Ok, Err}
 use Rattle.std.specs.List.{list_any, filter_map, cons_option, position_or_len}
-use Rattle.std.specs.Option.{unwrap_or}
+use Rattle.std.specs.Option.{option_or, unwrap_or}
 use Rattle.std.specs.Str.{bytes_eq}
 use Rattle.std.proofs.lemmas.Bool.{lt-ltb, le-ltb, ltb-true, ltb-false}
 use Rattle.std.proofs.lemmas.Slice.Eq.{bytes_eq-Decides}
@@ -17,7 +17,6 @@ use Rattle.wa_types.specs.Syntax.{Module}
 use Rattle.wa_types.specs.Typing.{GlobalType, type_of}
 use Rattle.run_theory.specs.Fitting.{types_of, global_types}
 use Rattle.script_model.specs.Script.{GlobalText, ProgramText}
-use Rattle.script_model.specs.ScriptLines.{or_else}
 use Rattle.wa_model.specs.Step.{zero_of}
 use Rattle.host_setup.specs.SetUp as H
 use Rattle.script_setup.specs.SetUpRules.{SetUp, has_type, is_global, imports_global, is_set, other_type, bad_global, last_value, value_or_zero, global_values, told_at, global_line}
@@ -79,7 +78,7 @@ winner imports name v (g ∷ gs) h e = by_later (last_value name gs) refl e (win
   own true n is = record { line = g; lawful = not_false (is_set imports g) (left_false (unset imports g) (list_any (unset imports) gs) h); named = n; value = cc }
   own false n is = cc
 
-  by_later : (o : Option Value) → last_value name gs ≡ o → or_else o (if bytes_eq g.name name then Some g.value else None) ≡ Some v → (last_value name gs ≡ Some v → Wins imports name v)
+  by_later : (o : Option Value) → last_value name gs ≡ o → option_or o (if bytes_eq g.name name then Some g.value else None) ≡ Some v → (last_value name gs ≡ Some v → Wins imports name v)
       → Wins imports name v
   by_later (Some w) later is more = more (later ∙ is)
   by_later None later is more = own (bytes_eq g.name name) refl is
@@ -142,7 +141,7 @@ module _ (imports : List Import) (gs : List GlobalText) (lawful : list_any (unse
 
 -- ---- of a set-up
 
-no_bad : (o p n : Option ℕ) (t : ProgramText) (x y : SetUp) → unless_told (or_else (told_at 14 (global_line t) o) (or_else (told_at 15 (show_line t) p) (told_line 16 n))) x ≡ Ok y
+no_bad : (o p n : Option ℕ) (t : ProgramText) (x y : SetUp) → unless_told (option_or (told_at 14 (global_line t) o) (option_or (told_at 15 (show_line t) p) (told_line 16 n))) x ≡ Ok y
     → (o ≡ None) × (n ≡ None) × (x ≡ y)
 no_bad (Some i) p n t x y e = cc
 no_bad None (Some i) n t x y e = cc

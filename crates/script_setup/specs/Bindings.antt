@@ -1,5 +1,6 @@
 -- The devices to which a program's lines bind its imports.
 use Rattle.std.specs.Prelude.{ℕ, if◌then◌else◌, List, [], ◌∷◌, Option, Some, None}
+use Rattle.std.specs.Option.{option_or}
 use Rattle.std.specs.List.{filter_map}
 use Rattle.std.specs.Str.{bytes_eq}
 use Rattle.wa_types.specs.declared.syntax.Import.{Import}
@@ -7,12 +8,11 @@ use Rattle.wa_types.specs.Modules.{imported_func}
 use Rattle.wa_types.specs.Pausing.{joined_name}
 use Rattle.wa_types.specs.Syntax.{Module}
 use Rattle.script_model.specs.Script.{BindText}
-use Rattle.script_model.specs.ScriptLines.{or_else}
 
 -- the device that the last line of a name tells
 abbrev pub last_device : (name : List ℕ) → List BindText → Option (List ℕ)
 last_device name [] = None
-last_device name (b ∷ bs) = or_else (last_device name bs) (if bytes_eq b.import name then Some b.device else None)
+last_device name (b ∷ bs) = option_or (last_device name bs) (if bytes_eq b.import name then Some b.device else None)
 
 -- of an import that is a function
 abbrev pub where_func : Option ℕ → Option (List ℕ) → Option (Option (List ℕ))

@@ -1,7 +1,7 @@
 -- The set-up rules of scripts: what is asked of a program's lines once its module is there, and what the program is then given.
 use Rattle.std.specs.Prelude.{ℕ, ◌+◌, nat_lt, not, ◌&&◌, ◌||◌, if◌then◌else◌, List, [], ◌∷◌, map, Option, Some, None, Bool, false, Result, Ok, Err, position, slice_get}
 use Rattle.std.specs.List.{filter_map, list_any}
-use Rattle.std.specs.Option.{option_map, unwrap_or}
+use Rattle.std.specs.Option.{option_map, option_or, unwrap_or}
 use Rattle.std.specs.Str.{bytes_eq}
 use Rattle.wa_types.specs.declared.values.ValType.{ValType}
 use Rattle.wa_types.specs.declared.values.ValType.TheVariants.{I32, I64}
@@ -14,7 +14,6 @@ use Rattle.wa_types.specs.Pausing.{joined_name}
 use Rattle.wa_types.specs.Typing.{GlobalType, type_of}
 use Rattle.wa_model.specs.declared.answers.Area.{Area}
 use Rattle.script_model.specs.Script.{BindText, GlobalText, EntryText, ShowText, MailboxText, ProgramText, ScriptFault, breaks}
-use Rattle.script_model.specs.ScriptLines.{or_else}
 use Rattle.wa_model.specs.Step.{same_func_type, zero_of}
 use Rattle.script_model.specs.Transcript.{Names}
 use Rattle.world_model.specs.World.{import_names}
@@ -126,7 +125,7 @@ misbound_line boxes p binds = winning_line (is_misbound boxes p) binds
 -- the value that the last line of a name gives
 abbrev pub last_value : (name : List ℕ) → List GlobalText → Option Value
 last_value name [] = None
-last_value name (g ∷ gs) = or_else (last_value name gs) (if bytes_eq g.name name then Some g.value else None)
+last_value name (g ∷ gs) = option_or (last_value name gs) (if bytes_eq g.name name then Some g.value else None)
 
 -- the value of an imported global, where the import is one: what is told, else 0
 abbrev pub value_or_zero : Option GlobalType → Option Value → Option Value
@@ -154,8 +153,8 @@ told_line rule line = option_map (λ (n : ℕ). breaks n rule) line
 -- the fault of a line of globals, of shown memory or of a mailbox
 abbrev pub lines_fault : (runs : Bool) → (boxes : List (List ℕ)) → Module → ProgramText → Option ScriptFault
 lines_fault runs boxes p t =
-    or_else (told_at 14 (global_line t) (bad_global p.imports t.globals))
-    (or_else (told_at 15 (show_line t) (bad_show runs t.area t.shows)) (told_line 16 (misbound_line boxes p t.binds)))
+    option_or (told_at 14 (global_line t) (bad_global p.imports t.globals))
+    (option_or (told_at 15 (show_line t) (bad_show runs t.area t.shows)) (told_line 16 (misbound_line boxes p t.binds)))
 
 -- a fault, where there is one, else what was made
 abbrev pub unless_told : {A : Type 0} → Option ScriptFault → A → Result A ScriptFault

@@ -1,11 +1,10 @@
 //! A program, set up over its module: what it is given, or the line and the rule of its first fault.
 
 ghost use Rattle.std.specs.Prelude.{◌≡◌, ◌<◌, ◌^◌, IfOk, Ok, length, map, position};
-ghost use Rattle.std.specs.Option.{option_map};
+ghost use Rattle.std.specs.Option.{option_map, option_or};
 ghost use Rattle.wa_types.specs.View.{module_of};
 ghost use Rattle.host_setup.specs.SetUp.{set_up};
 ghost use Rattle.host_setup.specs.Views.{entry_of as named_entry_of};
-ghost use Rattle.script_model.specs.ScriptLines.{or_else};
 ghost use Rattle.script_reader.specs.Views.{mailbox_of, program_of, show_of};
 ghost use Rattle.script_setup.specs.SetUpRules.{bad_show, box_names, entry_line, global_line, global_values, lines_fault, misbound_line, named_entry, overlaps, set_up_rules, show_line, told_at, told_funcs, told_line, unless_told};
 ghost use Rattle.script_setup.specs.Views.{Reads, broken_of, rule_fault, set_up_of};
@@ -181,7 +180,7 @@ fn later_fault(
     text: &ProgramText,
     runs: bool,
 ) -> Result<Option<Broken>, AllocError>
-    ensures { IfOk result (λ broken. or_else (told_at 15 (show_line (program_of text.now)) (bad_show runs (program_of text.now).area (program_of text.now).shows))
+    ensures { IfOk result (λ broken. option_or (told_at 15 (show_line (program_of text.now)) (bad_show runs (program_of text.now).area (program_of text.now).shows))
         (told_line 16 (misbound_line (box_names (map mailbox_of mailboxes.now)) (module_of «module».now) (program_of text.now).binds)) ≡ option_map broken_of broken) }
 {
     match bad_show(runs, text.area, &text.shows) {

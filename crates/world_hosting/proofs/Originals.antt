@@ -1,5 +1,6 @@
 -- What is told of rewritten modules is told of their originals.
 use Rattle.std.proofs.Common.{◌≡◌, ℕ, List, [], ◌∷◌, map, Option, Some, None, Bool, true, false, cond, is_none, refl, sym, ap, ◌∙◌, subst, All, position, Ok}
+use Rattle.std.specs.Option.{option_or}
 use Rattle.std.specs.List.{filter_map, AllZip}
 use Rattle.std.proofs.lemmas.List.Elements.{All-nil, All-cons, All-map}
 use Rattle.wa_types.specs.declared.syntax.Import.{Import}
@@ -9,7 +10,6 @@ use Rattle.wa_types.specs.Syntax.{Module}
 use Rattle.wa_types.specs.Typing.{GlobalType}
 use Rattle.run_theory.specs.Fitting.{types_of, global_types}
 use Rattle.wa_model.specs.Plan.{EntryFits, Fits, Plan}
-use Rattle.script_model.specs.ScriptLines.{or_else}
 use Rattle.world_model.specs.World.{Actor, Original}
 use Rattle.world_laws.specs.Originals.{MayRun, Orderly, StandsIn, met}
 use Rattle.world_laws.proofs.Stories.{none_ignored}
@@ -28,11 +28,11 @@ use Rattle.world_hosting.proofs.Values.{are_typed, globals_fit, kept_by_rules, n
 
 -- ---- no entry is missing
 
-first_none : (a b : Option Fault) → or_else a b ≡ None → a ≡ None
+first_none : (a b : Option Fault) → option_or a b ≡ None → a ≡ None
 first_none None b e = refl
 first_none (Some f) b e = cc
 
-rest_none : (a b : Option Fault) → or_else a b ≡ None → b ≡ None
+rest_none : (a b : Option Fault) → option_or a b ≡ None → b ≡ None
 rest_none None b e = e
 rest_none (Some f) b e = cc
 

@@ -1,5 +1,6 @@
 -- What the lines of a script tell of a program fits a plan.
 use Rattle.std.proofs.Common.{pow_pos, option_map, ◌==◌, ◌∙◌, arith, ◌≡◌, ℕ, ◌+◌, ◌-◌, ◌*◌, ◌<◌, ◌≤◌, ◌^◌, ◌&&◌, nat_le, Bool, true, false, Option, Some, None, Ok, Err, List, [], ◌∷◌, length, subst, refl, if◌then◌else◌, codes, All}
+use Rattle.std.specs.Option.{option_or}
 use Rattle.std.specs.Str.{bytes_eq}
 use Rattle.std.proofs.lemmas.Bool.{leb-true}
 use Rattle.std.proofs.lemmas.List.Elements.{All-nil, All-cons, All-weaker}
@@ -105,7 +106,7 @@ wide_fits (Some digits) v e = by (integer_in 64 digits) refl e where
 
 told_value : (word : List ℕ) (v : Value) → value_in word ≡ Some v → value_fits v
 told_value word v e = by (i32_in (behind (codes "i32:") word)) refl e where
-  by : (o : Option Value) → i32_in (behind (codes "i32:") word) ≡ o → L.or_else o (i64_in (behind (codes "i64:") word)) ≡ Some v → value_fits v
+  by : (o : Option Value) → i32_in (behind (codes "i32:") word) ≡ o → option_or o (i64_in (behind (codes "i64:") word)) ≡ Some v → value_fits v
   by (Some x) is k = narrow_fits (behind (codes "i32:") word) v (is ∙ k)
   by None is k = wide_fits (behind (codes "i64:") word) v k
 

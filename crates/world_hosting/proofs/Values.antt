@@ -2,7 +2,7 @@
 use Rattle.std.proofs.Common.{◌≡◌, ℕ, ◌+◌, List, [], ◌∷◌, length, map, nat_lt, Option, Some, None, Bool, true, false}
 use Rattle.std.proofs.Common.{cond, ◌&&◌, refl, sym, ap, ◌∙◌, subst, arith, All, position, Result, Ok, Err, if◌then◌else◌, ltb-false}
 use Rattle.std.specs.List.{cons_option, position_or_len}
-use Rattle.std.specs.Option.{unwrap_or}
+use Rattle.std.specs.Option.{option_or, unwrap_or}
 use Rattle.std.specs.Str.{bytes_eq}
 use Rattle.std.proofs.lemmas.List.Elements.{All-nil, All-cons, All-head, All-tail}
 use Rattle.std.proofs.lemmas.List.Sums.{fails_before_first}
@@ -20,7 +20,6 @@ use Rattle.wa_ops.specs.Operate.{are_of}
 use Rattle.wa_model.specs.declared.answers.Area.{Area}
 use Rattle.run_theory.specs.Fitting.{types_of}
 use Rattle.script_model.specs.Script.{GlobalText, ProgramText, ShowText}
-use Rattle.script_model.specs.ScriptLines.{or_else}
 use Rattle.wa_model.specs.Step.{zero_of}
 use Rattle.host_setup.specs.SetUp as H
 use Rattle.script_setup.specs.SetUpRules.{SetUp, bad_global, bad_show, global_line, global_values, last_value, misbound_line, named_entry, overlaps}
@@ -34,7 +33,7 @@ pub record Kept (p : Module) (t : ProgramText) (s : SetUp) : Type 0 where
   pub globals : s.globals ≡ global_values p.imports t.globals
   pub shows : position (overlaps t.area) t.shows ≡ None
 
-unbroken : (o q n : Option ℕ) (t : ProgramText) (x y : SetUp) → unless_told (or_else (told_at 14 (global_line t) o) (or_else (told_at 15 (show_line t) q) (told_line 16 n))) x ≡ Ok y
+unbroken : (o q n : Option ℕ) (t : ProgramText) (x y : SetUp) → unless_told (option_or (told_at 14 (global_line t) o) (option_or (told_at 15 (show_line t) q) (told_line 16 n))) x ≡ Ok y
     → (q ≡ None) × (x ≡ y)
 unbroken (Some i) q n t x y e = cc
 unbroken None (Some i) n t x y e = cc
@@ -67,7 +66,7 @@ last_fits name (g ∷ gs) v h e = by (last_value name gs) refl e (last_fits name
       subst value_fits same (All-head GlobalOk g gs h)
   own false k = cc
 
-  by : (o : Option Value) → last_value name gs ≡ o → or_else o (if bytes_eq g.name name then Some g.value else None) ≡ Some v → (last_value name gs ≡ Some v → value_fits v) → value_fits v
+  by : (o : Option Value) → last_value name gs ≡ o → option_or o (if bytes_eq g.name name then Some g.value else None) ≡ Some v → (last_value name gs ≡ Some v → value_fits v) → value_fits v
   by (Some w) later k more = more (later ∙ k)
   by None later k more = own (bytes_eq g.name name) k
 
