@@ -10,8 +10,8 @@ use Rattle.wa_types.specs.declared.values.Trap.TheVariants.{Unreachable, Import}
 use Rattle.wa_model.specs.declared.answers.Said.TheVariants as S
 use Rattle.wa_model.specs.declared.events.End.TheVariants.{Trapped, UnwindTrap}
 use Rattle.wa_model.specs.Outside.{Line, Event, called, answered, paused, returned, ended, shown}
-use Rattle.script_model.specs.Script.{Script, ScriptFault, breaks, too_many, device_line, sharing_line}
-use Rattle.script_model.specs.ScriptLines.{begins_program, has_steps, shows, detaches, has_mailbox, answers, line_says, word_text, value_in, result_in, number_in, hex_in}
+use Rattle.script_model.specs.Script.{Script, ScriptFault, breaks, too_many, device_line, strand_line, unsaved_line}
+use Rattle.script_model.specs.ScriptLines.{begins_program, has_steps, shows, detaches, has_mailbox, begins_strand, answers, line_says, word_text, value_in, result_in, number_in, hex_in}
 use Rattle.script_model.specs.ScriptText.{script_text}
 use Rattle.script_model.specs.Transcript.{Names, event_line, Transcript, last_line, refusal_line, script, invalid, limit, snapshot_limit, snapshot_refused}
 
@@ -159,6 +159,7 @@ one_program : script_text (line (codes "program f" ++ 13 ∷ []) (line (codes "a
         entries = record { line = 3; name = codes "run"; args = V.I32 7 ∷ [] } ∷ [];
         answers = [];
         shows = [];
+        strands = [];
       } ∷ [];
       detaches = [];
       mailboxes = [];
@@ -262,6 +263,7 @@ two_mailboxes : script_text (line (codes "mailbox a") (program_lines (codes "mai
         entries = [];
         answers = [];
         shows = [];
+        strands = [];
       } ∷ [];
       detaches = [];
       mailboxes = record { line = 1; name = codes "a" } ∷ record { line = 4; name = codes "b" } ∷ [];
@@ -308,19 +310,96 @@ first_device : device_at (script_text (program_lines (program_lines (line (codes
 unfolding script_text is_utf8 chars encode digits
 first_device = refl
 
--- the line of the first `device` or `mailbox` line
-abbrev sharing_at : Result Script ScriptFault → Option ℕ
-sharing_at (Ok s) = sharing_line s
-sharing_at (Err f) = None
+-- the line of the first `device`, `mailbox` or `strand` line
+abbrev unsaved_at : Result Script ScriptFault → Option ℕ
+unsaved_at (Ok s) = unsaved_line s
+unsaved_at (Err f) = None
 
 -- whichever comes first, and not the line of a `detach`
-sharing : (sharing_at (script_text (program_lines (codes "detach d 1"))) ≡ None)
-    × (sharing_at (script_text (program_lines (line (codes "device env.b d") (line (codes "mailbox a") (codes "mailbox b"))))) ≡ Some 3)
-    × (sharing_at (script_text (program_lines (line (codes "mailbox b") (codes "device env.b d")))) ≡ Some 3)
-    × (sharing_at (script_text (line (codes "mailbox a") (program_lines []))) ≡ Some 1)
-    × (sharing_at (script_text (program_lines (program_lines (codes "device env.a d")))) ≡ Some 5)
+unsaved : (unsaved_at (script_text (program_lines (codes "detach d 1"))) ≡ None)
+    × (unsaved_at (script_text (program_lines (line (codes "device env.b d") (line (codes "mailbox a") (codes "mailbox b"))))) ≡ Some 3)
+    × (unsaved_at (script_text (program_lines (line (codes "mailbox b") (codes "device env.b d")))) ≡ Some 3)
+    × (unsaved_at (script_text (line (codes "mailbox a") (program_lines []))) ≡ Some 1)
+    × (unsaved_at (script_text (program_lines (program_lines (codes "device env.a d")))) ≡ Some 5)
+    × (unsaved_at (script_text (program_lines (line (codes "strand 8 8") (codes "device env.a d")))) ≡ Some 3)
 unfolding script_text is_utf8 chars encode digits
-sharing = (refl, refl, refl, refl, refl)
+unsaved = (refl, refl, refl, refl, refl, refl)
+
+-- ---- strands
+
+a_strand : (line_says (codes "strand 64 8") ≡ Ok (Some (begins_strand 64 8))) × (line_says (codes "strand 64") ≡ Err 3) × (line_says (codes "strand 64 8 8") ≡ Err 3)
+    × (line_says (codes "strand 64 x") ≡ Err 4)
+unfolding script_text is_utf8 chars encode digits
+a_strand = (refl, refl, refl, refl)
+
+-- entries and answers behind a `strand` line are that strand's; an area, steps and what is shown are the program's wherever they stand
+two_strands : script_text (line (codes "program f") (line (codes "enter a") (line (codes "strand 64 8") (line (codes "enter b") (line (codes "area 0 8")
+    (line (codes "answer m.n trap") (line (codes "strand 72 16") (line (codes "show 4 2") (codes "enter c")))))))))
+    ≡ Ok (record {
+      programs = record {
+        line = 1;
+        path = codes "f";
+        list = None;
+        ignore_imports = false;
+        policy_live = false;
+        area = record { at = 0; len = 8 };
+        area_line = 5;
+        steps = 100000000;
+        globals = [];
+        binds = [];
+        entries = record { line = 2; name = codes "a"; args = [] } ∷ [];
+        answers = [];
+        shows = record { line = 8; at = 4; len = 2 } ∷ [];
+        strands =
+            record {
+              line = 3;
+              area = record { at = 64; len = 8 };
+              entries = record { line = 4; name = codes "b"; args = [] } ∷ [];
+              answers = record { import = codes "m.n"; answer = record { said = S.Trap; pokes = []; ticks = 0 } } ∷ [];
+            }
+            ∷ record { line = 7; area = record { at = 72; len = 16 }; entries = record { line = 9; name = codes "c"; args = [] } ∷ []; answers = [] }
+            ∷ [];
+      } ∷ [];
+      detaches = [];
+      mailboxes = [];
+    })
+unfolding script_text is_utf8 chars encode digits
+two_strands = refl
+
+-- seven strands more
+abbrev seven_strands : List ℕ → List ℕ
+seven_strands rest = line (codes "strand 8 8") (line (codes "strand 8 8") (line (codes "strand 8 8") (line (codes "strand 8 8") (line (codes "strand 8 8")
+    (line (codes "strand 8 8") (line (codes "strand 8 8") rest))))))
+
+-- a program has fifteen `strand` lines; the sixteenth is bad, whatever its numbers; those of another program count anew
+sixteenth : (fault (script_text (program_lines (seven_strands (seven_strands (codes "strand 8 8"))))) ≡ None)
+    × (fault (script_text (program_lines (seven_strands (seven_strands (line (codes "strand 8 8") (codes "strand 8 8")))))) ≡ Some (breaks 18 3))
+    × (fault (script_text (program_lines (seven_strands (seven_strands (line (codes "strand 8 8") (codes "strand 8 x")))))) ≡ Some (breaks 18 4))
+    × (fault (script_text (program_lines (seven_strands (seven_strands (program_lines (line (codes "strand 8 8") (codes "strand 8 8"))))))) ≡ None)
+unfolding script_text is_utf8 chars encode digits
+sixteenth = (refl, refl, refl, refl)
+
+-- a strand stands behind a program's line, and doesn't tell the program's area
+early_strand : (fault (script_text (codes "strand 8 8")) ≡ Some (breaks 1 5)) × (fault (script_text (line (codes "program f") (codes "strand 8 8"))) ≡ Some (breaks 1 7))
+unfolding script_text is_utf8 chars encode digits
+early_strand = (refl, refl)
+
+-- a script has no mailbox and strand both: the first `strand` line is bad, behind all other lines, and behind a program without an area
+mixed : (fault (script_text (program_lines (line (codes "strand 8 8") (line (codes "strand 8 8") (codes "mailbox a"))))) ≡ Some (breaks 3 20))
+    × (fault (script_text (program_lines (line (codes "mailbox a") (line (codes "strand 8 8") (codes "save some"))))) ≡ Some (breaks 5 3))
+    × (fault (script_text (program_lines (line (codes "mailbox a") (line (codes "strand 8 8") (codes "program g"))))) ≡ Some (breaks 5 7))
+unfolding script_text is_utf8 chars encode digits
+mixed = (refl, refl, refl)
+
+-- the line of the first `strand` line
+abbrev strand_at : Result Script ScriptFault → Option ℕ
+strand_at (Ok s) = strand_line s
+strand_at (Err f) = None
+
+-- the first of two, behind a program without one
+first_strand : (strand_at (script_text (program_lines [])) ≡ None) × (strand_at (script_text (program_lines (program_lines (line (codes "strand 8 8") (codes "strand 8 8"))))) ≡ Some 5)
+unfolding script_text is_utf8 chars encode digits
+first_strand = (refl, refl)
 
 -- ---- printed lines
 

@@ -35,8 +35,16 @@ pub record DetachText : Type 0 where
   pub device : List ℕ
   pub before : ℕ
 
+-- A further strand of a program, behind its first: its area and the line of it, its entries and its answer lines in order.
+pub record StrandText : Type 0 where
+  pub line : ℕ
+  pub area : Area
+  pub entries : List EntryText
+  pub answers : List AnswerLine
+
 -- A program: the line at which it begins, the path of its module, its list of imports where it has one, whether none is listed,
--- its policy, its area and the line of it, its number of steps, and its lines of each kind in order.
+-- its policy, its area and the line of it, its number of steps, and its lines of each kind in order; those of entries and answers are its
+-- first strand's, behind which come the others.
 pub record ProgramText : Type 0 where
   pub line : ℕ
   pub path : List ℕ
@@ -51,6 +59,7 @@ pub record ProgramText : Type 0 where
   pub entries : List EntryText
   pub answers : List AnswerLine
   pub shows : List ShowText
+  pub strands : List StrandText
 
 -- A mailbox, by which programs wait for one another.
 pub record MailboxText : Type 0 where
@@ -71,15 +80,19 @@ device_line s = option_map (λ (b : BindText). b.line) (slice_get (flat_map (λ 
 abbrev pub mailbox_line : Script → Option ℕ
 mailbox_line s = option_map (λ (m : MailboxText). m.line) (slice_get s.mailboxes 0)
 
+-- the line of the first `strand` line of all programs, where there is one
+abbrev pub strand_line : Script → Option ℕ
+strand_line s = option_map (λ (x : StrandText). x.line) (slice_get (flat_map (λ (t : ProgramText). t.strands) s.programs) 0)
+
 -- the lesser of two lines, where they are told
 abbrev pub lesser_line : Option ℕ → Option ℕ → Option ℕ
 lesser_line (Some a) (Some b) = Some (if nat_le a b then a else b)
 lesser_line (Some a) None = Some a
 lesser_line None other = other
 
--- the line of the first `device` or `mailbox` line, where there is one
-abbrev pub sharing_line : Script → Option ℕ
-sharing_line s = lesser_line (device_line s) (mailbox_line s)
+-- the line of the first `device`, `mailbox` or `strand` line, where there is one: of what no snapshot holds
+abbrev pub unsaved_line : Script → Option ℕ
+unsaved_line s = lesser_line (device_line s) (lesser_line (mailbox_line s) (strand_line s))
 
 -- Why a text is no script: a rule that a line breaks, lines being counted from 1, or more programs than there may be.
 pub data ScriptFault : Type 0 where

@@ -175,10 +175,11 @@ pub data Statement : Type 0 where
   shows : (at len : ℕ) → Statement
   detaches : (device : List ℕ) → (before : ℕ) → Statement
   has_mailbox : (name : List ℕ) → Statement
+  begins_strand : (at len : ℕ) → Statement
 
 -- the first words of lines
 pub data Keyword : Type 0 where
-  program_word imports_word ignore_imports_word save_word area_word steps_word global_word device_word enter_word answer_word show_word detach_word mailbox_word : Keyword
+  program_word imports_word ignore_imports_word save_word area_word steps_word global_word device_word enter_word answer_word show_word detach_word mailbox_word strand_word : Keyword
 
 -- A keyword and how it is spelled.
 pub record Spelling : Type 0 where
@@ -201,6 +202,7 @@ keywords =
     ∷ record { text = codes "show"; keyword = show_word }
     ∷ record { text = codes "detach"; keyword = detach_word }
     ∷ record { text = codes "mailbox"; keyword = mailbox_word }
+    ∷ record { text = codes "strand"; keyword = strand_word }
     ∷ []
 
 -- the keyword that a word is
@@ -290,6 +292,7 @@ says answer_word (name ∷ result ∷ more) = says_answer name result more
 says show_word (at ∷ len ∷ []) = says_two shows (u32_in at) (number_within 1 4096 len)
 says detach_word (device ∷ before ∷ []) = unless_none (λ n. Ok (detaches device n)) (number_within 1 (2 ^ 64 - 1) before)
 says mailbox_word (name ∷ []) = Ok (has_mailbox name)
+says strand_word (at ∷ len ∷ []) = says_two begins_strand (u32_in at) (u32_in len)
 says _ _ = Err 3
 
 -- what the words behind the first one say, where that is a keyword

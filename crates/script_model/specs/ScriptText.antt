@@ -1,5 +1,5 @@
 -- Which script a text is, or why it is none.
-use Rattle.std.specs.Prelude.{◌≡◌, ℕ, suc, nat_eq, not, ◌&&◌, ◌||◌, if◌then◌else◌, List, [], ◌∷◌, length, Option, Some, None, Bool, true, false, Result, Ok, Err, slice_get}
+use Rattle.std.specs.Prelude.{◌≡◌, ℕ, suc, nat_eq, not, ◌&&◌, ◌||◌, if◌then◌else◌, List, [], ◌∷◌, length, map, Option, Some, None, Bool, true, false, Result, Ok, Err, slice_get}
 use Rattle.std.specs.Option.{unwrap_or}
 use Rattle.std.specs.List.{filter, filter_map, list_any}
 use Rattle.std.specs.Str.{bytes_eq}
@@ -7,12 +7,16 @@ use Rattle.std.specs.Str.Lines.{lines}
 use Rattle.wa_types.specs.Pausing.{Entry, ListError, list_of}
 use Rattle.wa_model.specs.declared.answers.Area.{Area}
 use Rattle.wa_model.specs.Outside.{AnswerLine}
-use Rattle.script_model.specs.Script.{GlobalText, BindText, EntryText, ShowText, DetachText, MailboxText, ProgramText, Script, ScriptFault, breaks, too_many}
-use Rattle.script_model.specs.ScriptLines.{Statement, begins_program, lists_imports, ignores_imports, saves, has_area, has_steps, sets_global, binds, enters, answers, shows, detaches, has_mailbox, line_says}
+use Rattle.script_model.specs.Script.{GlobalText, BindText, EntryText, ShowText, StrandText, DetachText, MailboxText, ProgramText, Script, ScriptFault, breaks, strand_line, too_many}
+use Rattle.script_model.specs.ScriptLines.{Statement, begins_program, lists_imports, ignores_imports, saves, has_area, has_steps, sets_global, binds, enters, answers, shows, detaches, has_mailbox, begins_strand, line_says}
 
 -- a script has at most so many programs
 abbrev pub most_programs : ℕ
 most_programs = 16
+
+-- a program has at most so many strands, its first among them
+abbrev pub most_strands : ℕ
+most_strands = 16
 
 -- a program's number of steps where it tells none
 abbrev pub default_steps : ℕ
@@ -34,6 +38,11 @@ is_detach _ = false
 abbrev pub is_mailbox : Statement → Bool
 is_mailbox (has_mailbox name) = true
 is_mailbox _ = false
+
+-- a further strand begins
+abbrev pub is_strand : Statement → Bool
+is_strand (begins_strand at len) = true
+is_strand _ = false
 
 -- it is told which imports are listed
 abbrev pub tells_imports : Statement → Bool
@@ -90,6 +99,10 @@ is_early s earlier = not (is_program s || (is_detach s || is_mailbox s)) && not 
 abbrev pub is_one_too_many : Statement → (earlier : List Statement) → Bool
 is_one_too_many s earlier = is_program s && nat_eq (length (filter is_program earlier)) most_programs
 
+-- a strand begins behind as many as the program may have
+abbrev pub is_strand_too_many : Statement → (told : List Statement) → Bool
+is_strand_too_many s told = is_strand s && nat_eq (suc (length (filter is_strand told))) most_strands
+
 -- it declares a mailbox of this name
 abbrev pub declares : (name : List ℕ) → Statement → Bool
 declares name (has_mailbox other) = bytes_eq other name
@@ -105,9 +118,10 @@ abbrev pub fault_of : (line : ℕ) → (earlier : List Statement) → Statement 
 fault_of line earlier s =
     if is_early s earlier then Some (breaks line 5)
     else (if is_one_too_many s earlier then Some (too_many (suc most_programs))
+    else (if is_strand_too_many s (in_program earlier) then Some (breaks line 3)
     else (if is_repeated s (in_program earlier) then Some (breaks line 6)
     else (if has_bad_list s then Some (breaks line 8)
-    else (if is_doubled s earlier then Some (breaks line 17) else None))))
+    else (if is_doubled s earlier then Some (breaks line 17) else None)))))
 
 -- a statement and the number of its line, counted from 1
 pub record Numbered : Type 0 where
@@ -157,6 +171,28 @@ grouped_with line s g = record { first = record { line = line; says = s } ∷ g.
 abbrev pub grouped : List Numbered → Grouped
 grouped [] = record { first = []; groups = [] }
 grouped (s ∷ ss) = grouped_with s.line s.says (grouped ss)
+
+-- A further strand's line, and the statements behind it up to the next one's.
+pub record StrandGroup : Type 0 where
+  pub line : ℕ
+  pub area : Area
+  pub told : List Numbered
+
+-- a program's statements by its strands, and those in front of its first `strand` line
+pub record Stranded : Type 0 where
+  pub first : List Numbered
+  pub strands : List StrandGroup
+
+-- a statement in front of strands; a strand's line makes one of the statements in front of the first
+abbrev pub stranded_with : (line : ℕ) → Statement → Stranded → Stranded
+stranded_with line (begins_strand at len) g =
+    record { first = []; strands = record { line = line; area = record { at = at; len = len }; told = g.first } ∷ g.strands }
+stranded_with line s g = record { first = record { line = line; says = s } ∷ g.first; strands = g.strands }
+
+-- the statements of a program, by its strands
+abbrev pub stranded : List Numbered → Stranded
+stranded [] = record { first = []; strands = [] }
+stranded (s ∷ ss) = stranded_with s.line s.says (stranded ss)
 
 -- the list of imports that a statement tells
 abbrev pub list_of_statement : Statement → Option (List ℕ)
@@ -231,7 +267,11 @@ told_by tells ss = filter_map (λ (s : Numbered). tells s.says) ss
 abbrev pub lines_by : {A : Type 0} → (ℕ → Statement → Option A) → List Numbered → List A
 lines_by tells ss = filter_map (λ (s : Numbered). tells s.line s.says) ss
 
--- the program of a group, whose area is this
+-- a further strand, whose entries and answers are those behind its line
+abbrev pub strand_of : StrandGroup → StrandText
+strand_of g = record { line = g.line; area = g.area; entries = lines_by entry_of g.told; answers = told_by answer_of g.told }
+
+-- the program of a group, whose area is this; its entries and answers are those in front of its first `strand` line
 abbrev pub program_of : Group → AreaText → ProgramText
 program_of g a = record {
   line = g.line;
@@ -244,9 +284,10 @@ program_of g a = record {
   steps = unwrap_or (slice_get (told_by steps_of g.told) 0) default_steps;
   globals = lines_by global_of g.told;
   binds = lines_by bind_of g.told;
-  entries = lines_by entry_of g.told;
-  answers = told_by answer_of g.told;
+  entries = lines_by entry_of (stranded g.told).first;
+  answers = told_by answer_of (stranded g.told).first;
   shows = lines_by show_of g.told;
+  strands = map strand_of (stranded g.told).strands;
 }
 
 -- a group's program in front of others, where its area is told
@@ -260,9 +301,20 @@ abbrev pub programs_of : List Group → Result (List ProgramText) ScriptFault
 programs_of [] = Ok []
 programs_of (g ∷ gs) = with_program g (slice_get (lines_by area_of g.told) 0) (programs_of gs)
 
+-- the line of this script that begins a strand, the first, where it declares a mailbox besides
+abbrev pub mixed_line : (mailboxes : List MailboxText) → (strand : Option ℕ) → Option ℕ
+mixed_line [] strand = None
+mixed_line (m ∷ ms) strand = strand
+
+-- a script, unless this line of it begins a strand beside a mailbox
+abbrev pub unless_mixed : Option ℕ → Script → Result Script ScriptFault
+unless_mixed None s = Ok s
+unless_mixed (Some line) s = Err (breaks line 20)
+
 -- a script of these programs, where they have no fault
 abbrev pub with_programs : List DetachText → List MailboxText → Result (List ProgramText) ScriptFault → Result Script ScriptFault
-with_programs ds boxes (Ok programs) = Ok (record { programs = programs; detaches = ds; mailboxes = boxes })
+with_programs ds boxes (Ok programs) =
+    let s : Script = record { programs = programs; detaches = ds; mailboxes = boxes } in unless_mixed (mixed_line boxes (strand_line s)) s
 with_programs ds boxes (Err f) = Err f
 
 -- the script of statements, where they have no fault

@@ -1,5 +1,5 @@
 -- The set-up rules of scripts: what is asked of a program's lines once its module is there, and what the program is then given.
-use Rattle.std.specs.Prelude.{ℕ, ◌+◌, nat_lt, not, ◌&&◌, ◌||◌, if◌then◌else◌, List, [], ◌∷◌, map, Option, Some, None, Bool, false, Result, Ok, Err, position, slice_get}
+use Rattle.std.specs.Prelude.{ℕ, ◌+◌, nat_lt, not, ◌&&◌, ◌||◌, if◌then◌else◌, List, [], ◌∷◌, ◌++◌, map, Option, Some, None, Bool, false, Result, Ok, Err, position, slice_get}
 use Rattle.std.specs.List.{filter_map, list_any}
 use Rattle.std.specs.Option.{option_map, option_or, unwrap_or}
 use Rattle.std.specs.Str.{bytes_eq}
@@ -13,11 +13,13 @@ use Rattle.wa_types.specs.Modules.{imported_func, imported_global, type_at}
 use Rattle.wa_types.specs.Pausing.{joined_name}
 use Rattle.wa_types.specs.Typing.{GlobalType, type_of}
 use Rattle.wa_model.specs.declared.answers.Area.{Area}
-use Rattle.script_model.specs.Script.{BindText, GlobalText, EntryText, ShowText, MailboxText, ProgramText, ScriptFault, breaks}
+use Rattle.script_model.specs.Script.{BindText, GlobalText, EntryText, ShowText, StrandText, MailboxText, ProgramText, ScriptFault, breaks}
+use Rattle.script_model.specs.ScriptText.{AreaText}
+use Rattle.wa_model.specs.Blocking.{overlap}
 use Rattle.wa_model.specs.Step.{same_func_type, zero_of}
 use Rattle.script_model.specs.Transcript.{Names}
 use Rattle.world_model.specs.World.{import_names}
-use Rattle.host_setup.specs.SetUp.{NamedEntry, Fault, area_bad, no_export, entry_missing, entry_is_import, arg_types, set_up}
+use Rattle.host_setup.specs.SetUp.{NamedEntry, Fault, area_bad, no_export, entry_missing, entry_is_import, arg_types, is_area_in, least_pages, set_up}
 
 -- ---- rules 9 to 13: area, exports, entries
 
@@ -25,18 +27,44 @@ use Rattle.host_setup.specs.SetUp.{NamedEntry, Fault, area_bad, no_export, entry
 abbrev pub named_entry : EntryText → NamedEntry
 named_entry e = record { name = e.name; args = e.args }
 
+-- the area of a program's first strand
+abbrev pub own_area : ProgramText → AreaText
+own_area t = record { line = t.area_line; area = t.area }
+
+-- that of a further strand
+abbrev pub strand_area : StrandText → AreaText
+strand_area s = record { line = s.line; area = s.area }
+
+-- of this area and those of further strands the first that is bad, or the last of all, where the memory has so many pages at least
+abbrev pub asked_from : (pages : ℕ) → AreaText → List StrandText → AreaText
+asked_from pages a [] = a
+asked_from pages a (s ∷ ss) = if is_area_in pages a.area then asked_from pages (strand_area s) ss else a
+
+-- a bad area of a program, the first, where it has one
+abbrev pub asked_area : Module → ProgramText → AreaText
+asked_area p t = asked_from (least_pages p) (own_area t) t.strands
+
+-- these entries, and behind them those of further strands, in order
+abbrev pub entries_then : List EntryText → List StrandText → List EntryText
+entries_then es [] = es
+entries_then es (s ∷ ss) = es ++ entries_then s.entries ss
+
+-- the entries of all strands of a program
+abbrev pub entries_in : ProgramText → List EntryText
+entries_in t = entries_then t.entries t.strands
+
 -- the line of the entry of this number
 abbrev pub entry_line : ProgramText → ℕ → ℕ
-entry_line t i = unwrap_or (option_map (λ (e : EntryText). e.line) (slice_get t.entries i)) 0
+entry_line t i = unwrap_or (option_map (λ (e : EntryText). e.line) (slice_get (entries_in t) i)) 0
 
--- the line at which a fault of the module's set-up is told, and the rule: 9 for the area at its line, 10 for an export at the
--- program's line, 11 to 13 for an entry at its line
-abbrev pub told_fault : ProgramText → Fault → ScriptFault
-told_fault t area_bad = breaks t.area_line 9
-told_fault t (no_export name) = breaks t.line 10
-told_fault t (entry_missing i) = breaks (entry_line t i) 11
-told_fault t (entry_is_import i) = breaks (entry_line t i) 12
-told_fault t (arg_types i) = breaks (entry_line t i) 13
+-- the line at which a fault of the module's set-up is told, and the rule: 9 for the area that is asked, at its line, 10 for an export at
+-- the program's line, 11 to 13 for an entry at its line
+abbrev pub told_fault : AreaText → ProgramText → Fault → ScriptFault
+told_fault asked t area_bad = breaks asked.line 9
+told_fault asked t (no_export name) = breaks t.line 10
+told_fault asked t (entry_missing i) = breaks (entry_line t i) 11
+told_fault asked t (entry_is_import i) = breaks (entry_line t i) 12
+told_fault asked t (arg_types i) = breaks (entry_line t i) 13
 
 -- ---- rule 14: globals
 
@@ -70,15 +98,20 @@ bad_global imports globals = position (λ (g : GlobalText). not (is_set imports 
 abbrev pub global_line : ProgramText → ℕ → ℕ
 global_line t i = unwrap_or (option_map (λ (g : GlobalText). g.line) (slice_get t.globals i)) 0
 
--- ---- rule 15: memory that is shown, which `run` asks to lie off the area
+-- ---- rule 15: memory that is shown, which `run` asks to lie off all areas
 
 -- a range of memory that is shown has a byte of the area
 abbrev pub overlaps : Area → ShowText → Bool
 overlaps area s = nat_lt s.at (area.at + area.len) && nat_lt area.at (s.at + s.len)
 
+-- .. or one of an area of these further strands
+abbrev pub overlaps_one : Area → List StrandText → ShowText → Bool
+overlaps_one area [] s = overlaps area s
+overlaps_one area (x ∷ xs) s = overlaps area s || overlaps_one x.area xs s
+
 -- the first such range, where that is asked
-abbrev pub bad_show : (runs : Bool) → Area → List ShowText → Option ℕ
-bad_show runs area shows = if runs then position (overlaps area) shows else None
+abbrev pub bad_show : (runs : Bool) → Area → List StrandText → List ShowText → Option ℕ
+bad_show runs area strands shows = if runs then position (overlaps_one area strands) shows else None
 
 -- the line of the range at this place
 abbrev pub show_line : ProgramText → ℕ → ℕ
@@ -120,6 +153,17 @@ is_misbound boxes p b = list_any (bytes_eq b.device) boxes && list_any (is_unfit
 abbrev pub misbound_line : (boxes : List (List ℕ)) → Module → List BindText → Option ℕ
 misbound_line boxes p binds = winning_line (is_misbound boxes p) binds
 
+-- ---- rule 19: areas of strands, which don't overlap
+
+-- an area shares a byte with one of these
+abbrev pub shares_byte : List Area → Area → Bool
+shares_byte earlier a = list_any (λ (b : Area). overlap b.at b.len a.at a.len) earlier
+
+-- the line of the first of these strands whose area shares a byte with that of an earlier one, or with one of these
+abbrev pub overlap_line : (earlier : List Area) → List StrandText → Option ℕ
+overlap_line earlier [] = None
+overlap_line earlier (s ∷ ss) = if shares_byte earlier s.area then Some s.line else overlap_line (earlier ++ s.area ∷ []) ss
+
 -- ---- what a program is given
 
 -- the value that the last line of a name gives
@@ -136,7 +180,7 @@ value_or_zero (Some g) told = Some (unwrap_or told (zero_of g.ty))
 abbrev pub global_values : List Import → List GlobalText → List Value
 global_values imports globals = filter_map (λ (i : Import). value_or_zero (imported_global i.kind) (last_value (joined_name i) globals)) imports
 
--- The functions of the program's entries, and the values of its imported globals.
+-- The functions of the entries of all strands, in order, and the values of the program's imported globals.
 pub record SetUp : Type 0 where
   pub funcs : List ℕ
   pub globals : List Value
@@ -150,11 +194,12 @@ told_at rule line (Some i) = Some (breaks (line i) rule)
 abbrev pub told_line : (rule : ℕ) → Option ℕ → Option ScriptFault
 told_line rule line = option_map (λ (n : ℕ). breaks n rule) line
 
--- the fault of a line of globals, of shown memory or of a mailbox
+-- the fault of a line of globals, of shown memory, of a mailbox or of a strand
 abbrev pub lines_fault : (runs : Bool) → (boxes : List (List ℕ)) → Module → ProgramText → Option ScriptFault
 lines_fault runs boxes p t =
     option_or (told_at 14 (global_line t) (bad_global p.imports t.globals))
-    (option_or (told_at 15 (show_line t) (bad_show runs t.area t.shows)) (told_line 16 (misbound_line boxes p t.binds)))
+    (option_or (told_at 15 (show_line t) (bad_show runs t.area t.strands t.shows))
+    (option_or (told_line 16 (misbound_line boxes p t.binds)) (told_line 19 (overlap_line (t.area ∷ []) t.strands))))
 
 -- a fault, where there is one, else what was made
 abbrev pub unless_told : {A : Type 0} → Option ScriptFault → A → Result A ScriptFault
@@ -162,9 +207,9 @@ unless_told None x = Ok x
 unless_told (Some f) x = Err f
 
 -- the functions of the entries, or the fault as it is told
-abbrev pub told_funcs : ProgramText → Result (List ℕ) Fault → Result (List ℕ) ScriptFault
-told_funcs t (Err f) = Err (told_fault t f)
-told_funcs t (Ok funcs) = Ok funcs
+abbrev pub told_funcs : AreaText → ProgramText → Result (List ℕ) Fault → Result (List ℕ) ScriptFault
+told_funcs asked t (Err f) = Err (told_fault asked t f)
+told_funcs asked t (Ok funcs) = Ok funcs
 
 -- what a program is given, where neither its entries nor its lines have a fault
 abbrev pub with_lines : (runs : Bool) → (boxes : List (List ℕ)) → Module → ProgramText → Result (List ℕ) ScriptFault → Result SetUp ScriptFault
@@ -174,10 +219,14 @@ with_lines runs boxes p t (Ok funcs) = unless_told (lines_fault runs boxes p t) 
 -- A program over a module, set up beside mailboxes of these names; or the line and rule of the first fault: rule by rule, each over all
 -- lines of the program.
 abbrev pub set_up_rules : (runs : Bool) → (boxes : List (List ℕ)) → Module → ProgramText → Result SetUp ScriptFault
-set_up_rules runs boxes p t = with_lines runs boxes p t (told_funcs t (set_up p t.area (map named_entry t.entries)))
+set_up_rules runs boxes p t = with_lines runs boxes p t (told_funcs (asked_area p t) t (set_up p (asked_area p t).area (map named_entry (entries_in t))))
 
 -- ---- names
 
--- what is named in the program's lines
+-- what is named in the lines of the program's first strand
 abbrev pub program_names : Module → ProgramText → Names
 program_names p t = record { imports = import_names p; entries = map (λ (e : EntryText). e.name) t.entries; len = t.area.len }
+
+-- what is named in those of a further strand
+abbrev pub strand_names : Module → StrandText → Names
+strand_names p s = record { imports = import_names p; entries = map (λ (e : EntryText). e.name) s.entries; len = s.area.len }
