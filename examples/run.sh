@@ -1,19 +1,19 @@
 #!/usr/bin/env bash
 # Rewrites examples/story.wasm, runs it with Node under examples/host.mjs, each read and sleep a pause, and compares what it prints with what
 # the original prints with imports that answer at once, then under mistakes that the host has to tell; and ask.wasm under ask.mjs, by the
-# host library. Without Node it says so, and does nothing more. First it runs ask.script, turns.script and mail.script, and looks whether README shows
+# host library. Without Node it says so, and does nothing more. First it runs ask.script, turns.script, mail.script and strands.script, and looks whether README shows
 # the files of the first as they are, and docs/COMMAND.md those of the others.
 cd "$(dirname "$0")" || exit 1
 out=$(mktemp -d)
 trap 'rm -rf "$out"' EXIT
-for script in ask turns mail count; do
+for script in ask turns mail strands count; do
     ../asyncify run $script.script | diff $script.lines - || { echo "examples: $script.script prints other lines"; exit 1; }
 done
 for events in 1 2 3 4 5; do
     { ../asyncify save count.script $events "$out/snap" && ../asyncify continue count.script "$out/snap"; } | diff count.lines - \
         || { echo "examples: count.script goes on with other lines behind event $events"; exit 1; }
 done
-for shown in README.md:ask.c README.md:ask.mjs README.md:ask.script README.md:ask.lines docs/HOSTING.md:ask.mjs docs/COMMAND.md:turns.script docs/COMMAND.md:turns.lines docs/COMMAND.md:mail.script docs/COMMAND.md:mail.lines; do
+for shown in README.md:ask.c README.md:ask.mjs README.md:ask.script README.md:ask.lines docs/HOSTING.md:ask.mjs docs/COMMAND.md:turns.script docs/COMMAND.md:turns.lines docs/COMMAND.md:mail.script docs/COMMAND.md:mail.lines docs/COMMAND.md:strands.script docs/COMMAND.md:strands.lines; do
     file=${shown#*:} document=${shown%:*}
     # (without the comment that says what the file is)
     grep -v '^// Runs' "$file" | python3 -c "import sys; sys.exit(sys.stdin.read() not in open('../$document').read())" || { echo "examples: $document has another $file"; exit 1; }
