@@ -6,9 +6,9 @@ use Rattle.std.proofs.lemmas.List.{length-append}
 use Rattle.std.proofs.lemmas.List.Elements.{All-nil, All-cons, All-head, All-tail, All-weaker}
 use Rattle.wa_model.specs.Outside.{AnswerLine}
 use Rattle.wa_model.specs.Plan.{AnswerFits}
-use Rattle.script_model.specs.Script.{EntryText, ScriptFault, StrandText, breaks, too_many}
+use Rattle.script_model.specs.Script.{EntryText, ScriptFault, StrandText, breaks}
 use Rattle.script_model.specs.ScriptLines.{Statement, begins_program, lists_imports, ignores_imports, saves, has_area, has_steps, sets_global, binds, enters, answers, shows, detaches, has_mailbox, begins_strand, line_says}
-use Rattle.script_model.specs.ScriptText.{Numbered, Group, Grouped, StrandGroup, Stranded, is_early, is_strand, is_strand_too_many, in_program, most_strands, fault_of, unless_fault, with_line, statements, grouped_with, grouped, stranded_with, stranded, strand_of, entry_of, answer_of, told_by, lines_by}
+use Rattle.script_model.specs.ScriptText.{Numbered, Group, Grouped, StrandGroup, Stranded, is_early, is_strand, in_program, most_strands, fault_of, unless_fault, with_line, statements, grouped_with, grouped, stranded_with, stranded, strand_of, entry_of, answer_of, told_by, lines_by}
 use Rattle.pause_host.specs.Moves.{HasShortPokes}
 use Rattle.script_setup.specs.SetUpRules.{entries_then}
 use Rattle.world_hosting.specs.Worlds.{FitsStrand, HasStrandRanges}
