@@ -327,8 +327,8 @@ unsaved = (refl, refl, refl, refl, refl, refl)
 
 -- ---- strands
 
-a_strand : (line_says (codes "strand 64 8") ≡ Ok (Some (begins_strand (Some (record { at = 64; len = 8 }))))) × (line_says (codes "strand 64") ≡ Err 3) × (line_says (codes "strand 64 8 8") ≡ Err 3)
-    × (line_says (codes "strand 64 x") ≡ Ok (Some (begins_strand None)))
+a_strand : (line_says (codes "strand 64 8") ≡ Ok (Some (begins_strand 64 8))) × (line_says (codes "strand 64") ≡ Err 3) × (line_says (codes "strand 64 8 8") ≡ Err 3)
+    × (line_says (codes "strand 64 x") ≡ Err 4)
 unfolding script_text is_utf8 chars encode digits
 a_strand = (refl, refl, refl, refl)
 
@@ -371,19 +371,13 @@ abbrev seven_strands : List ℕ → List ℕ
 seven_strands rest = line (codes "strand 8 8") (line (codes "strand 8 8") (line (codes "strand 8 8") (line (codes "strand 8 8") (line (codes "strand 8 8")
     (line (codes "strand 8 8") (line (codes "strand 8 8") rest))))))
 
--- a program has fifteen `strand` lines; the sixteenth is bad, whatever its numbers, which are asked behind that; those of another program
--- count anew
+-- a program has fifteen `strand` lines; the sixteenth is bad, whatever its numbers; those of another program count anew
 sixteenth : (fault (script_text (program_lines (seven_strands (seven_strands (codes "strand 8 8"))))) ≡ None)
     × (fault (script_text (program_lines (seven_strands (seven_strands (line (codes "strand 8 8") (codes "strand 8 8")))))) ≡ Some (breaks 18 3))
-    × (fault (script_text (program_lines (seven_strands (seven_strands (line (codes "strand 8 8") (codes "strand 8 x")))))) ≡ Some (breaks 18 3))
+    × (fault (script_text (program_lines (seven_strands (seven_strands (line (codes "strand 8 8") (codes "strand 8 x")))))) ≡ Some (breaks 18 4))
     × (fault (script_text (program_lines (seven_strands (seven_strands (program_lines (line (codes "strand 8 8") (codes "strand 8 8"))))))) ≡ None)
 unfolding script_text is_utf8 chars encode digits
 sixteenth = (refl, refl, refl, refl)
-
--- numbers that aren't spelled, before the first program too
-unspelled : (fault (script_text (program_lines (codes "strand 8 x"))) ≡ Some (breaks 3 4)) × (fault (script_text (codes "strand x 8")) ≡ Some (breaks 1 4))
-unfolding script_text is_utf8 chars encode digits
-unspelled = (refl, refl)
 
 -- a strand stands behind a program's line, and doesn't tell the program's area
 early_strand : (fault (script_text (codes "strand 8 8")) ≡ Some (breaks 1 5)) × (fault (script_text (line (codes "program f") (codes "strand 8 8"))) ≡ Some (breaks 1 7))

@@ -7,7 +7,6 @@ use Rattle.std.specs.Fmt.{decimal}
 use Rattle.wa_types.specs.declared.values.Value.{Value}
 use Rattle.wa_types.specs.declared.values.Value.TheVariants as V
 use Rattle.script_model.specs.Command.{behind}
-use Rattle.wa_model.specs.declared.answers.Area.{Area}
 use Rattle.wa_model.specs.declared.answers.Said.{Said}
 use Rattle.wa_model.specs.declared.answers.Said.TheVariants as S
 use Rattle.wa_model.specs.Outside.{Poke, AnswerLine}
@@ -161,7 +160,7 @@ all_values (word ∷ words) = onto (value_in word) (all_values words)
 
 -- ---- what lines say
 
--- What a line of a script says. A strand whose numbers aren't spelled has no area: whether there is one too many is asked first.
+-- What a line of a script says.
 pub data Statement : Type 0 where
   begins_program : (path : List ℕ) → Statement
   lists_imports : (list : List ℕ) → Statement
@@ -176,7 +175,7 @@ pub data Statement : Type 0 where
   shows : (at len : ℕ) → Statement
   detaches : (device : List ℕ) → (before : ℕ) → Statement
   has_mailbox : (name : List ℕ) → Statement
-  begins_strand : (area : Option Area) → Statement
+  begins_strand : (at len : ℕ) → Statement
 
 -- the first words of lines
 pub data Keyword : Type 0 where
@@ -224,11 +223,6 @@ unless_none says (Some x) = says x
 abbrev pub says_two : (ℕ → ℕ → Statement) → Option ℕ → Option ℕ → Meaning
 says_two says (Some a) (Some b) = Ok (says a b)
 says_two says _ _ = Err 4
-
--- an area, where its place and its length are told
-abbrev pub area_in : Option ℕ → Option ℕ → Option Area
-area_in (Some at) (Some len) = Some (record { at = at; len = len })
-area_in _ _ = None
 
 -- `all` or `live`
 abbrev pub says_policy : List ℕ → Meaning
@@ -298,7 +292,7 @@ says answer_word (name ∷ result ∷ more) = says_answer name result more
 says show_word (at ∷ len ∷ []) = says_two shows (u32_in at) (number_within 1 4096 len)
 says detach_word (device ∷ before ∷ []) = unless_none (λ n. Ok (detaches device n)) (number_within 1 (2 ^ 64 - 1) before)
 says mailbox_word (name ∷ []) = Ok (has_mailbox name)
-says strand_word (at ∷ len ∷ []) = Ok (begins_strand (area_in (u32_in at) (u32_in len)))
+says strand_word (at ∷ len ∷ []) = says_two begins_strand (u32_in at) (u32_in len)
 says _ _ = Err 3
 
 -- what the words behind the first one say, where that is a keyword

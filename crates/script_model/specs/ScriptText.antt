@@ -41,7 +41,7 @@ is_mailbox _ = false
 
 -- a further strand begins
 abbrev pub is_strand : Statement → Bool
-is_strand (begins_strand area) = true
+is_strand (begins_strand at len) = true
 is_strand _ = false
 
 -- it is told which imports are listed
@@ -103,11 +103,6 @@ is_one_too_many s earlier = is_program s && nat_eq (length (filter is_program ea
 abbrev pub is_strand_too_many : Statement → (told : List Statement) → Bool
 is_strand_too_many s told = is_strand s && nat_eq (suc (length (filter is_strand told))) most_strands
 
--- a strand begins whose numbers aren't spelled
-abbrev pub has_no_area : Statement → Bool
-has_no_area (begins_strand None) = true
-has_no_area _ = false
-
 -- it declares a mailbox of this name
 abbrev pub declares : (name : List ℕ) → Statement → Bool
 declares name (has_mailbox other) = bytes_eq other name
@@ -121,13 +116,12 @@ is_doubled _ earlier = false
 -- what a line breaks by what stands before it, the nearest first
 abbrev pub fault_of : (line : ℕ) → (earlier : List Statement) → Statement → Option ScriptFault
 fault_of line earlier s =
-    if is_strand_too_many s (in_program earlier) then Some (breaks line 3)
-    else (if has_no_area s then Some (breaks line 4)
-    else (if is_early s earlier then Some (breaks line 5)
+    if is_early s earlier then Some (breaks line 5)
     else (if is_one_too_many s earlier then Some (too_many (suc most_programs))
+    else (if is_strand_too_many s (in_program earlier) then Some (breaks line 3)
     else (if is_repeated s (in_program earlier) then Some (breaks line 6)
     else (if has_bad_list s then Some (breaks line 8)
-    else (if is_doubled s earlier then Some (breaks line 17) else None))))))
+    else (if is_doubled s earlier then Some (breaks line 17) else None)))))
 
 -- a statement and the number of its line, counted from 1
 pub record Numbered : Type 0 where
@@ -191,8 +185,8 @@ pub record Stranded : Type 0 where
 
 -- a statement in front of strands; a strand's line makes one of the statements in front of the first
 abbrev pub stranded_with : (line : ℕ) → Statement → Stranded → Stranded
-stranded_with line (begins_strand area) g =
-    record { first = []; strands = record { line = line; area = unwrap_or area (record { at = 0; len = 0 }); told = g.first } ∷ g.strands }
+stranded_with line (begins_strand at len) g =
+    record { first = []; strands = record { line = line; area = record { at = at; len = len }; told = g.first } ∷ g.strands }
 stranded_with line s g = record { first = record { line = line; says = s } ∷ g.first; strands = g.strands }
 
 -- the statements of a program, by its strands
