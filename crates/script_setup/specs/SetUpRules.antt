@@ -1,5 +1,5 @@
 -- The set-up rules of scripts: what is asked of a program's lines once its module is there, and what the program is then given.
-use Rattle.std.specs.Prelude.{ℕ, ◌+◌, nat_lt, not, ◌&&◌, ◌||◌, if◌then◌else◌, List, [], ◌∷◌, ◌++◌, map, Option, Some, None, Bool, false, Result, Ok, Err, position, slice_get}
+use Rattle.std.specs.Prelude.{ℕ, ◌+◌, nat_le, nat_lt, not, ◌&&◌, ◌||◌, if◌then◌else◌, List, [], ◌∷◌, ◌++◌, map, Option, Some, None, Bool, false, Result, Ok, Err, position, slice_get}
 use Rattle.std.specs.List.{filter_map, list_any}
 use Rattle.std.specs.Option.{option_map, option_or, unwrap_or}
 use Rattle.std.specs.Str.{bytes_eq}
@@ -35,10 +35,14 @@ own_area t = record { line = t.area_line; area = t.area }
 abbrev pub strand_area : StrandText → AreaText
 strand_area s = record { line = s.line; area = s.area }
 
--- of this area and those of further strands the first that is bad, or the last of all, where the memory has so many pages at least
+-- of two areas one that is bad, that of the earlier line where both are; else the second
+abbrev pub worse : (pages : ℕ) → AreaText → AreaText → AreaText
+worse pages a b = if is_area_in pages a.area then b else (if is_area_in pages b.area || nat_le a.line b.line then a else b)
+
+-- of this area and those of further strands the first bad one, by their lines; else the last of all
 abbrev pub asked_from : (pages : ℕ) → AreaText → List StrandText → AreaText
 asked_from pages a [] = a
-asked_from pages a (s ∷ ss) = if is_area_in pages a.area then asked_from pages (strand_area s) ss else a
+asked_from pages a (s ∷ ss) = asked_from pages (worse pages a (strand_area s)) ss
 
 -- a bad area of a program, the first, where it has one
 abbrev pub asked_area : Module → ProgramText → AreaText
