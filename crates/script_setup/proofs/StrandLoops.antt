@@ -16,7 +16,7 @@ use Rattle.host_setup.specs.Views.{entry_of as named_entry_of}
 use Rattle.script_reader.specs.declared.script.EntryText.{EntryText}
 use Rattle.script_reader.specs.declared.script.StrandText.{StrandText}
 use Rattle.script_reader.specs.Views.{entry_of, strand_of}
-use Rattle.script_setup.specs.SetUpRules.{asked_from, entries_then, named_entry, overlap_line, overlaps, overlaps_one, shares_byte, strand_area}
+use Rattle.script_setup.specs.SetUpRules.{asked_from, entries_then, named_entry, overlap_line, overlaps, overlaps_one, shares_byte, worse}
 use Rattle.script_setup.specs.Views.{earlier_areas, line_among}
 use Rattle.script_setup.proofs.Gathered.{all_gone, front_is}
 
@@ -33,15 +33,10 @@ none_left xs i le = ap (λ (ys : List StrandText). map strand_of ys) (all_gone x
 -- ---- the area that is asked
 
 module _ (pages : ℕ) (xs : List StrandText) (i : ℕ) (a whole : AreaText) (before : whole ≡ asked_from pages a (strands_left xs i)) where
-  pub asked_next : (x : StrandText) → i < length xs → x ≡ get_or xs i x → is_area_in pages a.area ≡ true → whole ≡ asked_from pages (record { line = x.line; area = x.area }) (strands_left xs (i + 1))
-  asked_next x lt at good =
-      before ∙ ap (asked_from pages a) (next_left xs i x lt at)
-      ∙ ap (λ (b : Bool). if b then asked_from pages (strand_area (strand_of x)) (strands_left xs (i + 1)) else a) good
-
-  pub asked_here : (x : StrandText) → i < length xs → x ≡ get_or xs i x → is_area_in pages a.area ≡ false → whole ≡ a
-  asked_here x lt at bad =
-      before ∙ ap (asked_from pages a) (next_left xs i x lt at)
-      ∙ ap (λ (b : Bool). if b then asked_from pages (strand_area (strand_of x)) (strands_left xs (i + 1)) else a) bad
+  pub asked_next : (x : StrandText) → i < length xs → x ≡ get_or xs i x → (next : AreaText) → worse pages a (record { line = x.line; area = x.area }) ≡ next
+      → whole ≡ asked_from pages next (strands_left xs (i + 1))
+  asked_next x lt at next is =
+      before ∙ ap (asked_from pages a) (next_left xs i x lt at) ∙ ap (λ (b : AreaText). asked_from pages b (strands_left xs (i + 1))) is
 
   pub asked_last : length xs ≤ i → whole ≡ a
   asked_last le = before ∙ ap (asked_from pages a) (none_left xs i le)

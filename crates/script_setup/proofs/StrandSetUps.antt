@@ -1,6 +1,7 @@
 -- A program is set up strand by strand, and what it shows lies off the areas of all its strands.
 use Rattle.std.proofs.Common.{◌≡◌, ℕ, suc, List, [], ◌∷◌, ◌++◌, length, map, take, drop, Option, Some, None, Bool, true, false, ◌||◌, not, All, ap, sym, ◌∙◌, refl, subst, if◌then◌else◌}
 use Rattle.std.proofs.Common.{position, Result, Ok, Err}
+use Rattle.std.specs.Prelude.{nat_le}
 use Rattle.std.proofs.Math.Seq.{drop-append_seam, take-append_seam}
 use Rattle.std.specs.List.{list_any}
 use Rattle.std.specs.Option.{is_none, option_or, unwrap_or}
@@ -14,7 +15,7 @@ use Rattle.script_model.specs.Script.{EntryText, ProgramText, ShowText, StrandTe
 use Rattle.script_model.specs.ScriptText.{AreaText}
 use Rattle.host_setup.specs.SetUp.{Fault, NamedEntry, all_told, are_args, area_bad, arg_types, args_fault, calls_fault, entries_fault, entry_func, entry_funcs, entry_is_import, entry_missing, fault_at, first_false, first_fault, have_args}
 use Rattle.host_setup.specs.SetUp.{is_area_in, is_imported, is_there, least_pages, module_fault, needed, no_export, set_up, unless_fault}
-use Rattle.script_setup.specs.SetUpRules.{asked_area, asked_from, entries_then, named_entry, overlaps, overlaps_one, own_area, strand_area}
+use Rattle.script_setup.specs.SetUpRules.{asked_area, asked_from, entries_then, named_entry, overlaps, overlaps_one, own_area, strand_area, worse}
 use Rattle.script_setup.specs.StrandSetUps.{EachSetUp, StrandsAreSetUp}
 use Rattle.script_setup.proofs.FirstPlaces.{none_first, none_found, none_passes}
 use Rattle.script_setup.proofs.GlobalTypes.{left_false, right_false}
@@ -113,26 +114,33 @@ module _ (p : Module) where
   -- the first so many are those of the first strand
   told_first : (es more : List EntryText) (funcs : List ℕ) → told (es ++ more) ≡ funcs → (told es ≡ take (length es) funcs) × (told more ≡ drop (length es) funcs)
   told_first es more funcs e =
-      let whole : told es ++ told more ≡ funcs = sym (told_parted es more) ∙ e in
-      (
+      let whole : told es ++ told more ≡ funcs = sym (told_parted es more) ∙ e in (
         sym (take-append_seam (told es) (told more)) ∙ ap (λ n. take n (told es ++ told more)) (told_many es) ∙ ap (take (length es)) whole,
         sym (drop-append_seam (told es) (told more)) ∙ ap (λ n. drop n (told es ++ told more)) (told_many es) ∙ ap (drop (length es)) whole,
       )
 
   -- ---- strand by strand
 
+  -- where the worse of two is fine, both are
+  both_good : (a b : AreaText) → is_area_in (least_pages p) (worse (least_pages p) a b).area ≡ true → (is_area_in (least_pages p) a.area ≡ true) × (is_area_in (least_pages p) b.area ≡ true)
+  both_good a b good = by (is_area_in (least_pages p) a.area) refl (is_area_in (least_pages p) b.area) refl (nat_le a.line b.line) good where
+    by : (s : Bool) → is_area_in (least_pages p) a.area ≡ s → (t : Bool) → is_area_in (least_pages p) b.area ≡ t → (u : Bool)
+        → is_area_in (least_pages p) (if s then b else (if t || u then a else b)).area ≡ true → (is_area_in (least_pages p) a.area ≡ true) × (is_area_in (least_pages p) b.area ≡ true)
+    by true f t g u h = (f, h)
+    by false f true g u h = (h, g)
+    by false f false g true h = let no : true ≡ false = sym h ∙ f in cc
+    by false f false g false h = let no : true ≡ false = sym h ∙ g in cc
+
   asked_good : (a : AreaText) (ss : List StrandText) → is_area_in (least_pages p) (asked_from (least_pages p) a ss).area ≡ true → is_area_in (least_pages p) a.area ≡ true
   asked_good a [] good = good
-  asked_good a (s ∷ ss) good = by (is_area_in (least_pages p) a.area) refl good where
-    by : (b : Bool) → is_area_in (least_pages p) a.area ≡ b → is_area_in (least_pages p) (if b then asked_from (least_pages p) (strand_area s) ss else a).area ≡ true
-        → is_area_in (least_pages p) a.area ≡ true
-    by true is h = is
-    by false is h = h
+  asked_good a (s ∷ ss) good = (both_good a (strand_area s) (asked_good (worse (least_pages p) a (strand_area s)) ss good)).0
 
   asked_more : (a : AreaText) (s : StrandText) (ss : List StrandText) → is_area_in (least_pages p) (asked_from (least_pages p) a (s ∷ ss)).area ≡ true
       → is_area_in (least_pages p) (asked_from (least_pages p) (strand_area s) ss).area ≡ true
   asked_more a s ss good =
-      subst (λ (b : Bool). is_area_in (least_pages p) (if b then asked_from (least_pages p) (strand_area s) ss else a).area ≡ true) (asked_good a (s ∷ ss) good) good
+      subst (λ (b : Bool). is_area_in (least_pages p) (asked_from (least_pages p)
+      (if b then strand_area s else (if is_area_in (least_pages p) (strand_area s).area || nat_le a.line (strand_area s).line then a else strand_area s)) ss).area ≡ true)
+      (asked_good a (s ∷ ss) good) good
 
   module _ (exports : first_false (map (is_there p) needed) ≡ None) where
     each : (a : AreaText) (es : List EntryText) (ss : List StrandText) (funcs : List ℕ) → is_area_in (least_pages p) (asked_from (least_pages p) a ss).area ≡ true
@@ -140,8 +148,7 @@ module _ (p : Module) where
     each a es [] funcs good all are = set_up_of_parts a.area (map named_entry es) funcs (record { area = good; exports = exports; called = all; funcs_are = are })
     each a es (s ∷ ss) funcs good all are =
         let parted = called_parted (map named_entry es) (map named_entry (entries_then s.entries ss)) (subst AllCalled (map-append named_entry es (entries_then s.entries ss)) all) in
-        let first = told_first es (entries_then s.entries ss) funcs are in
-        (
+        let first = told_first es (entries_then s.entries ss) funcs are in (
           set_up_of_parts a.area (map named_entry es) (take (length es) funcs) (record { area = asked_good a (s ∷ ss) good; exports = exports; called = parted.0; funcs_are = first.0 }),
           each (strand_area s) s.entries ss (drop (length es) funcs) (asked_more a s ss good) parted.1 first.1,
         )

@@ -8,7 +8,7 @@ ghost use Rattle.wa_model.specs.Blocking.{overlap};
 ghost use Rattle.wa_model.specs.Instantiation.{least_of};
 ghost use Rattle.host_setup.specs.SetUp.{is_area_in, least_pages};
 ghost use Rattle.script_reader.specs.Views.{program_of, show_of, strand_of};
-ghost use Rattle.script_setup.specs.SetUpRules.{asked_area, asked_from, bad_show, overlap_line, overlaps, overlaps_one, shares_byte};
+ghost use Rattle.script_setup.specs.SetUpRules.{asked_area, asked_from, bad_show, overlap_line, overlaps, overlaps_one, shares_byte, worse};
 ghost use Rattle.script_setup.specs.Views.{area_text_of, earlier_areas};
 
 use script_reader::{ProgramText, ShowText, StrandText};
@@ -27,7 +27,7 @@ pub(crate) struct AreaText {
     pub area: Area,
 }
 
-/// Of the areas of a program's strands the first that is bad, or the last of all.
+/// Of the areas of a program's strands a bad one, that of the earliest line, where one is bad.
 pub(crate) fn asked_area(
     alloc: Global,
     module: &Module,
@@ -49,15 +49,29 @@ fn asked_from(pages: u32, own: AreaText, strands: &[StrandText]) -> AreaText
 {
     let mut asked = own;
     for strand in strands {
-        if !is_area_in(pages, asked.area) {
-            return asked;
-        }
-        asked = AreaText {
-            line: strand.line,
-            area: strand.area,
-        };
+        asked = worse(
+            pages,
+            asked,
+            AreaText {
+                line: strand.line,
+                area: strand.area,
+            },
+        );
     }
     asked
+}
+
+// Of two areas one that is bad, that of the earlier line where both are; else the second.
+fn worse(pages: u32, one: AreaText, other: AreaText) -> AreaText
+    ensures { worse pages (area_text_of one) (area_text_of other) ≡ area_text_of result }
+{
+    if is_area_in(pages, one.area) {
+        return other;
+    }
+    if is_area_in(pages, other.area) || one.line <= other.line {
+        return one;
+    }
+    other
 }
 
 // Whether the area begins at a multiple of 4, has 8 bytes at least and lies inside so many pages.
