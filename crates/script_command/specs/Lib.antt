@@ -16,5 +16,6 @@ pub mod SnapshotCalls
 pub mod SnapshotEnds
 pub mod SnapshotTelling
 pub mod SnapshotViews
+pub mod StrandWorlds
 pub mod Transcripts
 pub mod Views
