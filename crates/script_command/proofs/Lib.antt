@@ -8,6 +8,7 @@ mod Hosted
 pub mod JoinedRuns
 pub mod JoinedTexts
 mod MailToldOf
+pub mod NoStrands
 pub mod OfOriginals
 pub mod OneOriginal
 pub mod OneRead
