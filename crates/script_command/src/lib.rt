@@ -48,6 +48,9 @@ mod resuming;
 mod saving;
 mod staging;
 mod stop;
+mod strand_planning;
+mod strand_playing;
+mod strand_staging;
 mod verdicts;
 mod way;
 
