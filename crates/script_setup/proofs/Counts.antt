@@ -4,9 +4,9 @@ use Rattle.std.specs.Prelude.{nat_eq, ◌&&◌, if◌then◌else◌, slice_get}
 use Rattle.std.specs.List.{filter}
 use Rattle.std.specs.Str.Lines.{lines}
 use Rattle.std.proofs.lemmas.Bool.{eqb-false}
-use Rattle.script_model.specs.Script.{ProgramText, Script, ScriptFault, breaks, too_many}
-use Rattle.script_model.specs.ScriptLines.{Statement, begins_program, lists_imports, ignores_imports, saves, has_area, has_steps, sets_global, binds, enters, answers, shows, detaches, has_mailbox, line_says}
-use Rattle.script_model.specs.ScriptText.{AreaText, Group, Numbered, area_of, fault_of, grouped, grouped_with, has_bad_list, in_program, is_doubled, is_early, lines_by, mailbox_of, is_one_too_many, is_program, is_repeated, onto, program_of, programs_of, script_of, script_text, statements, told_by, detach_of, unless_fault, with_line, with_program, with_programs}
+use Rattle.script_model.specs.Script.{ProgramText, Script, ScriptFault, breaks, strand_line, too_many}
+use Rattle.script_model.specs.ScriptLines.{Statement, begins_program, lists_imports, ignores_imports, saves, has_area, has_steps, sets_global, binds, enters, answers, shows, detaches, has_mailbox, begins_strand, line_says}
+use Rattle.script_model.specs.ScriptText.{AreaText, Group, Numbered, area_of, fault_of, grouped, grouped_with, has_bad_list, in_program, is_doubled, is_early, lines_by, mailbox_of, is_one_too_many, is_program, is_repeated, is_strand_too_many, mixed_line, onto, program_of, programs_of, script_of, script_text, statements, told_by, detach_of, unless_fault, unless_mixed, with_line, with_program, with_programs}
 use Rattle.script_setup.specs.Scripts.{IsScript}
 
 -- ---- lines of programs
@@ -32,9 +32,10 @@ begun_more s earlier = by (is_program s) where
 room_for : (line : ℕ) (earlier : List Statement) (s : Statement) → fault_of line earlier s ≡ None → begun earlier ≤ 16 → begun (s ∷ earlier) ≤ 16
 room_for line earlier s e le = by (is_program s) (nat_eq (begun earlier) 16) refl (more (is_early s earlier) (is_one_too_many s earlier) e) (begun_more s earlier) where
   more : (early many : Bool) → (if early then Some (breaks line 5) else (if many then Some (too_many 17)
+      else (if is_strand_too_many s (in_program earlier) then Some (breaks line 3)
       else (if is_repeated s (in_program earlier) then Some (breaks line 6)
       else (if has_bad_list s then Some (breaks line 8)
-      else (if is_doubled s earlier then Some (breaks line 17) else None))))) ≡ None → many ≡ false
+      else (if is_doubled s earlier then Some (breaks line 17) else None)))))) ≡ None → many ≡ false
   more true many h = cc
   more false true h = cc
   more false false h = refl
@@ -94,6 +95,7 @@ groups_told (s ∷ ss) = by s.says (groups_told ss) where
   by (shows at len) e = omega (arith, e)
   by (detaches device before) e = omega (arith, e)
   by (has_mailbox name) e = omega (arith, e)
+  by (begins_strand at len) e = omega (arith, e)
 
 as_many : (gs : List Group) (programs : List ProgramText) → programs_of gs ≡ Ok programs → length programs ≡ length gs
 as_many [] programs e =
@@ -111,9 +113,9 @@ as_many (g ∷ gs) programs e = by (slice_get (lines_by area_of g.told) 0) (prog
 
 -- ---- scripts
 
-abbrev programs_in : Result Script ScriptFault → List ProgramText
-programs_in (Ok x) = x.programs
-programs_in (Err f) = []
+unmixed : (line : Option ℕ) (x s : Script) → unless_mixed line x ≡ Ok s → x ≡ s
+unmixed None x s e = cc
+unmixed (Some line) x s e = cc
 
 few_of : (r : Result (List Numbered) ScriptFault) (s : Script) → ((ss : List Numbered) → r ≡ Ok ss → Few [] ss) → script_of r ≡ Ok s → length s.programs ≤ 16
 few_of (Err f) s few e = cc
@@ -121,7 +123,8 @@ few_of (Ok ss) s few e = by (programs_of (grouped ss).groups) refl e where
   by : (r : Result (List ProgramText) ScriptFault) → programs_of (grouped ss).groups ≡ r → with_programs (told_by detach_of ss) (lines_by mailbox_of ss) r ≡ Ok s → length s.programs ≤ 16
   by (Err f) is h = cc
   by (Ok programs) is h =
-      let same : programs ≡ s.programs = ap programs_in h in
+      let x : Script = record { programs = programs; detaches = told_by detach_of ss; mailboxes = lines_by mailbox_of ss } in
+      let same : programs ≡ s.programs = ap (λ (y : Script). y.programs) (unmixed (mixed_line (lines_by mailbox_of ss) (strand_line x)) x s h) in
       let n = as_many (grouped ss).groups programs is in
       let g = groups_told ss in
       let le = few ss refl in

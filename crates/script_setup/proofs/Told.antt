@@ -8,6 +8,7 @@ use Rattle.std.proofs.lemmas.List.{length-map}
 use Rattle.wa_types.specs.Syntax.{Module}
 use Rattle.wa_types.specs.declared.syntax.Import.{Import}
 use Rattle.script_model.specs.Script.{GlobalText, ProgramText, ScriptFault}
+use Rattle.script_model.specs.ScriptText.{AreaText}
 use Rattle.host_setup.specs.declared.faults.SetupFault.{SetupFault}
 use Rattle.host_setup.specs.declared.faults.SetupFault.TheVariants as S
 use Rattle.host_setup.specs.SetUp as H
@@ -51,13 +52,13 @@ pub line_none : {X Y : Type 0} (line : Y → ℕ) (f : X → Y) (xs : List X) (i
 line_none line f xs i e = sym (ap (λ (o : Option _). unwrap_or (option_map line o) 0) (slice_get-map f xs i ∙ ap (option_map f) e))
 
 -- a fault of the module's set-up is told by its line and rule
-pub fault_told : (t : ProgramText) (fault : SetupFault) (told : Result (List ℕ) H.Fault) → W.Blames fault told → Blames (rule_fault t fault) (told_funcs t told)
-fault_told t S.Memory told e = tt
-fault_told t S.AreaBad told e = ap (told_funcs t) e
-fault_told t (S.NoExports name) told e = ap (told_funcs t) e
-fault_told t (S.EntryMissing entry) told e = ap (told_funcs t) e
-fault_told t (S.EntryIsImport entry) told e = ap (told_funcs t) e
-fault_told t (S.ArgTypes entry) told e = ap (told_funcs t) e
+pub fault_told : (asked : AreaText) (t : ProgramText) (fault : SetupFault) (told : Result (List ℕ) H.Fault) → W.Blames fault told → Blames (rule_fault asked t fault) (told_funcs asked t told)
+fault_told asked t S.Memory told e = tt
+fault_told asked t S.AreaBad told e = ap (told_funcs asked t) e
+fault_told asked t (S.NoExports name) told e = ap (told_funcs asked t) e
+fault_told asked t (S.EntryMissing entry) told e = ap (told_funcs asked t) e
+fault_told asked t (S.EntryIsImport entry) told e = ap (told_funcs asked t) e
+fault_told asked t (S.ArgTypes entry) told e = ap (told_funcs asked t) e
 
 -- a fault of the functions is one of the whole
 pub blames_on : (runs : Bool) (boxes : List (List ℕ)) (p : Module) (t : ProgramText) (fault : RuleFault) (told : Result (List ℕ) ScriptFault) → Blames fault told

@@ -4,5 +4,6 @@ pub mod Places
 pub mod Prepared
 pub mod Scripts
 pub mod SetUpRules
+pub mod StrandSetUps
 pub mod Tables
 pub mod Views

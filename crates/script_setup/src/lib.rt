@@ -5,18 +5,23 @@
 //! is valid (`specs/Prepared.antt`).
 //!
 //! `set_up_program` answers what the program is given, or the line and the rule of its first fault. What is asked of its lines once the
-//! module is there (`specs/SetUpRules.antt`): the area, the five exports and the entries, as `host_setup` asks; each `global` line sets
-//! imported globals of its value's type; for `run`, no memory is shown that overlaps the area; and an import that is bound to a mailbox
-//! sends an i32 or receives one. `bindings` tells which device answers
-//! each import: that of the last `device` line with its joined name (`specs/Bindings.antt`). Nothing runs here.
+//! module is there (`specs/SetUpRules.antt`): the areas of all strands, the five exports and the entries, as `host_setup` asks; each
+//! `global` line sets imported globals of its value's type; for `run`, no memory is shown that overlaps an area; an import that is bound
+//! to a mailbox sends an i32 or receives one; and no two areas overlap. `bindings` tells which device answers each import: that of the last
+//! `device` line with its joined name (`specs/Bindings.antt`). Nothing runs here.
+//!
+//! `copied_entries` are the entries that lines tell, with which a strand is planned; `program_names` and `strand_names` are the names of a
+//! strand's lines.
 //!
 //! - `scripts`, `modules`: scripts and prepared modules in files, or their refusal.
 //! - `fault`, `names`, `entries`: why a program isn't set up, the names in its lines, and its entries.
+//! - `areas`: the areas of its strands.
 //! - `globals`, `binding`, `mail`: imported globals and the lines that set them, imports and the devices of lines, imports that are bound
 //!   to mailboxes.
 //! - `setting`: `set_up_program`.
 #![tactic(auto)]
 
+mod areas;
 mod binding;
 mod entries;
 mod fault;
@@ -28,8 +33,9 @@ mod scripts;
 mod setting;
 
 pub use binding::bindings;
+pub use entries::copied_entries;
 pub use fault::RuleFault;
 pub use modules::fetch_prepared;
-pub use names::program_names;
+pub use names::{program_names, strand_names};
 pub use scripts::fetch_script;
 pub use setting::{SetUp, set_up_program};

@@ -19,12 +19,14 @@ use Rattle.host_setup.specs.SetUp.{Fault, NamedEntry, all_told, area_bad, entry_
 use Rattle.pause_host.specs.Settings.{calls_of}
 use Rattle.pause_host.proofs.Making.{set_up_fine}
 use Rattle.script_setup.specs.SetUpRules.{named_entry}
+use Rattle.script_setup.proofs.FirstPlaces.{none_passes}
 use Rattle.script_setup.proofs.GlobalTypes.{given_by_rules}
+use Rattle.script_setup.proofs.WithoutStrands.{funcs_alone}
 use Rattle.script_setup.specs.Bindings.{bound_imports}
 use Rattle.world_hosting.specs.Worlds.{Part, world_program, world_programs}
 use Rattle.world_hosting.specs.OriginalRuns.{IsRewritten, Source, StaysOff, ToldOfOriginals, original_for, originals_for}
 use Rattle.world_hosting.proofs.Entries.{area_fits, entries_fit}
-use Rattle.world_hosting.proofs.Values.{are_typed, globals_fit, kept_by_rules, none_passes, shows_off}
+use Rattle.world_hosting.proofs.Values.{are_typed, globals_fit, kept_by_rules, shows_off}
 
 -- ---- no entry is missing
 
@@ -66,9 +68,10 @@ module _ (x : Source) (y : Part) (is : IsRewritten x y) where
   fits : Fits m o.program.plan
   fits =
       let given = given_by_rules true is.boxes y.source y.text y.given is.set_up in
-      let kept = kept_by_rules is.boxes y.source y.text y.given is.set_up in
-      let fine = set_up_fine y.source is.rewrites.parts.valid_rewritten y.text.area es y.given.funcs given.funcs in
-      let all = entries_fit m y.source x.settings is.rewrites is.which is.tells es (none_missing y.source y.text.area es y.given.funcs given.funcs)
+      let kept = kept_by_rules is.boxes y.source y.text y.given is.alone is.set_up in
+      let funcs = funcs_alone y.text is.alone true is.boxes y.source y.given is.set_up in
+      let fine = set_up_fine y.source is.rewrites.parts.valid_rewritten y.text.area es y.given.funcs funcs in
+      let all = entries_fit m y.source x.settings is.rewrites is.which is.tells es (none_missing y.source y.text.area es y.given.funcs funcs)
       (subst (λ (fs : List ℕ). All (EntryTyped y.source) (calls_of es fs)) fine.funcs_are fine.entries)
       (All-map (λ (e : NamedEntry). All value_fits e.args) named_entry y.text.entries is.ranges.entries) in
       let types : types_of y.given.globals ≡ map (λ (g : GlobalType). g.ty) (imported imported_global m) =
@@ -88,7 +91,7 @@ module _ (x : Source) (y : Part) (is : IsRewritten x y) where
     fits = fits;
     listed = refl;
     answers = is.ranges.answers;
-    looks = shows_off y.text.area y.text.shows (kept_by_rules is.boxes y.source y.text y.given is.set_up).shows;
+    looks = shows_off y.text.area y.text.shows (kept_by_rules is.boxes y.source y.text y.given is.alone is.set_up).shows;
   }
 
   abbrev planned : Option (List Bool) → Plan

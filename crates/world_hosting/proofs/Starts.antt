@@ -8,7 +8,7 @@ use Rattle.wa_types.specs.Syntax.{Module}
 use Rattle.wa_model.specs.declared.answers.Area.{Area}
 use Rattle.run_theory.specs.Fitting.{types_of}
 use Rattle.wa_model.specs.Outside.{AnswerLine}
-use Rattle.script_model.specs.Script.{ProgramText}
+use Rattle.script_model.specs.Script.{EntryText, ProgramText}
 use Rattle.wa_model.specs.View.{answer_line_of}
 use Rattle.world_model.specs.World as W
 use Rattle.world_model.specs.World.{at_start}
@@ -23,21 +23,26 @@ use Rattle.pause_host.specs.Programs.{BindsAs, Follows, IsPlan, SetsUp, lines_le
 use Rattle.pause_host.specs.Programs as P
 use Rattle.pause_host.specs.Settings.{calls_of}
 use Rattle.script_setup.specs.declared.setting.SetUp.{SetUp as SetUpValue}
-use Rattle.script_setup.specs.SetUpRules.{named_entry, set_up_rules}
+use Rattle.script_setup.specs.SetUpRules.{entries_in, named_entry, set_up_rules}
 use Rattle.script_setup.specs.Views.{set_up_of}
 use Rattle.script_setup.proofs.GlobalTypes.{given_by_rules}
+use Rattle.script_setup.proofs.WithoutStrands.{entries_alone, funcs_alone}
 use Rattle.script_setup.specs.Bindings.{bindings}
 use Rattle.world_hosting.specs.declared.staging.ScriptPlan.{ScriptPlan}
 use Rattle.world_hosting.specs.Worlds.{FitsPlan, IsListing, Part, look_at, world_program}
 use Rattle.world_hosting.specs.Views.{IsPlanned, Suits, listing}
 use Rattle.script_setup.proofs.Bound.{bound_each}
 
--- what is made by the rules suits
-pub suits_by_rules : (runs : Bool) (boxes : List (List ℕ)) (p : Module) (t : ProgramText) (made : SetUpValue) → set_up_rules runs boxes p t ≡ Ok (set_up_of made)
-    → map named_entry_of made.entries.items ≡ map named_entry t.entries → Suits p t made
-suits_by_rules runs boxes p t made e entries =
+-- what is made by the rules suits, where the program has no further strands
+pub suits_by_rules : (runs : Bool) (boxes : List (List ℕ)) (p : Module) (t : ProgramText) (made : SetUpValue) → t.strands ≡ [] → set_up_rules runs boxes p t ≡ Ok (set_up_of made)
+    → map named_entry_of made.entries.items ≡ map named_entry (entries_in t) → Suits p t made
+suits_by_rules runs boxes p t made alone e entries =
     let given = given_by_rules runs boxes p t (set_up_of made) e in
-    record { entries = entries; funcs = given.funcs; globals = given.globals }
+    record {
+      entries = entries ∙ ap (λ (es : List EntryText). map named_entry es) (entries_alone t alone);
+      funcs = funcs_alone t alone runs boxes p (set_up_of made) e;
+      globals = given.globals;
+    }
 
 -- the one fault of a plan that has none
 pub blames_memory : (fault : SetupFault) (funcs : List ℕ) → Blames fault (Ok funcs) → (fault ≡ Memory → ⊥) → ⊥

@@ -1,11 +1,10 @@
 -- Values of a program's globals and the memory that it shows, by the rules that it keeps.
 use Rattle.std.proofs.Common.{◌≡◌, ℕ, ◌+◌, List, [], ◌∷◌, length, map, nat_lt, Option, Some, None, Bool, true, false}
 use Rattle.std.proofs.Common.{cond, ◌&&◌, refl, sym, ap, ◌∙◌, subst, arith, All, position, Result, Ok, Err, if◌then◌else◌, ltb-false}
-use Rattle.std.specs.List.{cons_option, position_or_len}
+use Rattle.std.specs.List.{cons_option}
 use Rattle.std.specs.Option.{option_or, unwrap_or}
 use Rattle.std.specs.Str.{bytes_eq}
 use Rattle.std.proofs.lemmas.List.Elements.{All-nil, All-cons, All-head, All-tail}
-use Rattle.std.proofs.lemmas.List.Sums.{fails_before_first}
 use Rattle.wa_types.specs.declared.syntax.Import.{Import}
 use Rattle.wa_types.specs.declared.values.ValType.{ValType}
 use Rattle.wa_types.specs.declared.values.ValType.TheVariants.{I32, I64}
@@ -21,9 +20,10 @@ use Rattle.wa_model.specs.declared.answers.Area.{Area}
 use Rattle.run_theory.specs.Fitting.{types_of}
 use Rattle.script_model.specs.Script.{GlobalText, ProgramText, ShowText}
 use Rattle.wa_model.specs.Step.{zero_of}
-use Rattle.host_setup.specs.SetUp as H
-use Rattle.script_setup.specs.SetUpRules.{SetUp, bad_global, bad_show, global_line, global_values, last_value, misbound_line, named_entry, overlaps}
-use Rattle.script_setup.specs.SetUpRules.{set_up_rules, show_line, told_at, told_funcs, told_line, unless_told, value_or_zero, with_lines}
+use Rattle.script_setup.specs.SetUpRules.{SetUp, global_values, last_value, overlaps, set_up_rules, value_or_zero}
+use Rattle.script_setup.proofs.FirstPlaces.{none_passes}
+use Rattle.script_setup.proofs.GlobalTypes.{given_by_rules}
+use Rattle.script_setup.proofs.WithoutStrands.{shows_alone}
 use Rattle.world_laws.specs.Originals.{ShowsOff}
 use Rattle.world_hosting.specs.Worlds.{look_at}
 
@@ -33,20 +33,10 @@ pub record Kept (p : Module) (t : ProgramText) (s : SetUp) : Type 0 where
   pub globals : s.globals ≡ global_values p.imports t.globals
   pub shows : position (overlaps t.area) t.shows ≡ None
 
-unbroken : (o q n : Option ℕ) (t : ProgramText) (x y : SetUp) → unless_told (option_or (told_at 14 (global_line t) o) (option_or (told_at 15 (show_line t) q) (told_line 16 n))) x ≡ Ok y
-    → (q ≡ None) × (x ≡ y)
-unbroken (Some i) q n t x y e = cc
-unbroken None (Some i) n t x y e = cc
-unbroken None None (Some i) t x y e = cc
-unbroken None None None t x y e = (refl, cc)
-
-pub kept_by_rules : (boxes : List (List ℕ)) (p : Module) (t : ProgramText) (s : SetUp) → set_up_rules true boxes p t ≡ Ok s → Kept p t s
-kept_by_rules boxes p t s e = by (H.set_up p t.area (map named_entry t.entries)) e where
-  by : (r : Result (List ℕ) H.Fault) → with_lines true boxes p t (told_funcs t r) ≡ Ok s → Kept p t s
-  by (Err f) h = cc
-  by (Ok funcs) h =
-      let n = unbroken (bad_global p.imports t.globals) (bad_show true t.area t.shows) (misbound_line boxes p t.binds) t (record { funcs = funcs; globals = global_values p.imports t.globals }) s h in
-      record { globals = sym (ap (λ (x : SetUp). x.globals) n.1); shows = n.0 }
+pub kept_by_rules : (boxes : List (List ℕ)) (p : Module) (t : ProgramText) (s : SetUp) → t.strands ≡ [] → set_up_rules true boxes p t ≡ Ok s → Kept p t s
+kept_by_rules boxes p t s alone e =
+    let given = given_by_rules true boxes p t s e in
+    record { globals = given.values; shows = shows_alone t alone given.shows }
 
 -- ---- values in range
 
@@ -96,12 +86,6 @@ are_typed (t ∷ ts) (v ∷ vs) e =
     ap (λ (ty : ValType). same_type ty (type_of v) && are_of ts vs) (sym head) ∙ ap (λ (b : Bool). b && are_of ts vs) (same_is (type_of v)) ∙ are_typed ts vs rest
 
 -- ---- what is shown
-
-pub none_passes : {X : Type 0} (p : X → Bool) (xs : List X) → position p xs ≡ None → All (λ x. p x ≡ false) xs
-none_passes p xs e = by (nat_lt (position_or_len p xs) (length xs)) refl e where
-  by : (b : Bool) → nat_lt (position_or_len p xs) (length xs) ≡ b → cond b (Some (position_or_len p xs)) None ≡ None → All (λ x. p x ≡ false) xs
-  by true z k = cc
-  by false z k = λ i d lt. let le = ltb-false (position_or_len p xs) (length xs) z in fails_before_first p xs i d (omega (arith, le, lt))
 
 off : (a b c d : Bool) → (c && d) ≡ false → (a && b && c && d) ≡ false
 off true true c d h = h

@@ -19,7 +19,7 @@ pub record Source : Type 0 where
   pub settings : Settings
 
 -- The program's module is this one, rewritten without ignoring `call_indirect`; its values are in range, and it keeps the rules, beside
--- mailboxes of some names.
+-- mailboxes of some names; it has no further strands.
 pub record IsRewritten (x : Source) (y : Part) : Type 0 where
   pub rewrites : Rewrites x.original x.settings y.source
   pub well_formed : WellFormed x.original
@@ -28,6 +28,7 @@ pub record IsRewritten (x : Source) (y : Part) : Type 0 where
   pub heeds : x.settings.ignore_indirect ≡ false
   pub listed : y.listed ≡ Some (Listed x.original x.settings)
   pub ranges : HasRanges y.text
+  pub alone : y.text.strands ≡ []
   pub boxes : List (List ℕ)
   pub set_up : set_up_rules true boxes y.source y.text ≡ Ok y.given
 
