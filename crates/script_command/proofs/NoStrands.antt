@@ -1,5 +1,5 @@
 -- Scripts without `strand` lines, and their programs, which have no further strand.
-use Rattle.std.proofs.Common.{◌≡◌, ◌++◌, ℕ, List, [], ◌∷◌, map, Option, Some, None, Result, Ok, refl, sym, ap, ◌∙◌, subst}
+use Rattle.std.proofs.Common.{◌≡◌, ◌++◌, ℕ, List, [], ◌∷◌, map, Option, Some, None, refl, sym, ap, ◌∙◌, subst}
 use Rattle.std.specs.Prelude.{All, slice_get}
 use Rattle.std.specs.List.{AllZip, flat_map}
 use Rattle.std.specs.Option.{option_map}
@@ -7,11 +7,11 @@ use Rattle.std.proofs.lemmas.List.Elements.{All-cons, All-head, All-nil, All-tai
 use Rattle.wa_types.specs.View.{module_of}
 use Rattle.wa_types.specs.Syntax.{Module}
 use Rattle.wa_types.specs.declared.syntax.Module.{Module as ModuleValue}
-use Rattle.host_setup.specs.SetUp.{Fault, least_pages, set_up}
-use Rattle.script_model.specs.Script.{ProgramText, Script, StrandText, device_line, lesser_line, mailbox_line, strand_line, unsaved_line}
+use Rattle.script_model.specs.Script.{EntryText, ProgramText, Script, StrandText, device_line, lesser_line, mailbox_line, strand_line, unsaved_line}
 use Rattle.script_reader.specs.Views.{program_of}
 use Rattle.script_setup.specs.declared.setting.SetUp.{SetUp as SetUpValue}
-use Rattle.script_setup.specs.SetUpRules.{asked_area, asked_from, entries_in, entries_then, named_entry, own_area}
+use Rattle.script_setup.specs.SetUpRules.{named_entry}
+use Rattle.script_setup.proofs.WithoutStrands.{entries_alone, set_up_alone}
 use Rattle.world_hosting.specs.Views.{Suits}
 use Rattle.script_command.specs.declared.opening.Opened.{Opened}
 use Rattle.script_command.specs.declared.programs.Planned.{Planned}
@@ -64,16 +64,10 @@ pub all_alone : (ps : List Planned) → All HasNoStrand (map text_in ps) → All
 all_alone [] h = All-nil IsAlone
 all_alone (p ∷ ps) h = All-cons IsAlone p ps (All-head HasNoStrand (text_in p) (map text_in ps) h) (all_alone ps (All-tail HasNoStrand (text_in p) (map text_in ps) h))
 
--- what is set up is its own area and entries
-pub set_up_alone : (p : Module) (t : ProgramText) (r : Result (List ℕ) Fault) → HasNoStrand t → set_up p (asked_area p t).area (map named_entry (entries_in t)) ≡ r
-    → set_up p t.area (map named_entry t.entries) ≡ r
-set_up_alone p t r none e =
-    sym (λ i. set_up p (asked_from (least_pages p) (own_area t) (none i)).area (map named_entry (entries_then t.entries (none i)))) ∙ e
-
 suits_alone : (p : Module) (t : ProgramText) (x : SetUpValue) → HasNoStrand t → SuitsStrands p t x → Suits p t x
 suits_alone p t x none s = record {
-  entries = s.entries ∙ ap (λ (ss : List StrandText). map named_entry (entries_then t.entries ss)) none;
-  funcs = set_up_alone p t (Ok x.funcs.items) none s.funcs;
+  entries = s.entries ∙ ap (λ (es : List EntryText). map named_entry es) (entries_alone t none);
+  funcs = sym (set_up_alone t none p) ∙ s.funcs;
   globals = s.globals;
 }
 

@@ -1,10 +1,11 @@
 -- A snapshot that was saved suits its script's programs, so that a call over it goes on.
-use Rattle.std.proofs.Common.{arith, ◌≡◌, ◌≤◌, ◌<◌, ◌⊎◌, inl, inr, ℕ, List, [], ◌∷◌, map, Option, Some, true, Ok, All, refl, sym, ap, ◌∙◌, subst}
+use Rattle.std.proofs.Common.{arith, ◌≡◌, ◌≤◌, ◌<◌, ◌⊎◌, inl, inr, ℕ, List, [], ◌∷◌, map, Option, Some, true, All, refl, sym, ap, ◌∙◌, subst}
 use Rattle.std.proofs.lemmas.List.Elements.{All-nil, All-cons, All-head, All-tail}
 use Rattle.vault_port.specs.Files.{Files}
 use Rattle.wa_types.specs.Validity.{Valid}
 use Rattle.script_setup.specs.SetUpRules.{named_entry}
 use Rattle.script_setup.proofs.GlobalTypes.{given_by_rules}
+use Rattle.script_setup.proofs.WithoutStrands.{funcs_alone}
 use Rattle.snapshot_store.specs.Snapshots.{snapshot_bytes}
 use Rattle.world_laws.specs.AloneLines.{Unbound}
 use Rattle.pause_host.proofs.Making.{set_up_fine}
@@ -21,7 +22,7 @@ use Rattle.script_command.specs.SavedSnapshots.{FindsSaved, SavedSnapshotsAreTak
 use Rattle.script_command.specs.SnapshotCalls.{Call, continues}
 use Rattle.script_command.specs.SnapshotTelling.{Cause, HoldsSnapshot, IsCause, IsRefused, long, programs_of, unfit, unplayed, unread, unwritten}
 use Rattle.script_command.proofs.GoingOver.{HasAlike, texts_of}
-use Rattle.script_command.proofs.NoStrands.{HasNoStrand, set_up_alone, unsaved_strands}
+use Rattle.script_command.proofs.NoStrands.{HasNoStrand, unsaved_strands}
 use Rattle.script_command.proofs.Runs.{have_no_strand, in_range}
 use Rattle.script_command.proofs.SnapshotAnswering.{continue_passes}
 use Rattle.script_command.proofs.Unbinding.{unbound_programs}
@@ -32,7 +33,7 @@ stage_set : (files : Option Files) (boxes : List (List ℕ)) (x : Part) → IsSt
 stage_set files boxes x stage fits ranges none =
     let valid : Valid x.source = stage.module_is.3.2.rewrites.parts.valid_rewritten in
     let given = given_by_rules true boxes x.source x.text x.given stage.set_up in
-    let fine = set_up_fine x.source valid x.text.area (map named_entry x.text.entries) x.given.funcs (set_up_alone x.source x.text (Ok x.given.funcs) none given.funcs) in
+    let fine = set_up_fine x.source valid x.text.area (map named_entry x.text.entries) x.given.funcs (funcs_alone x.text none true boxes x.source x.given stage.set_up) in
     record {
       valid = valid;
       exports = fine.exports;

@@ -2,22 +2,23 @@
 use Rattle.std.proofs.Common.{◌∙◌, List, refl, sym, subst}
 use Rattle.std.specs.List.{AllZip}
 use Rattle.wa_types.specs.declared.syntax.Module.{Module}
+use Rattle.world_hosting.specs.Views.{IsStaged}
 use Rattle.script_command.specs.Views.{CanStage, parts_of}
 use Rattle.script_command.specs.Ends.{call}
 use Rattle.script_command.proofs.Ending.{out_of_memory_alone}
-use Rattle.script_command.proofs.StagedParts.{few_staged, staged_parts}
+use Rattle.script_command.proofs.StagedParts.{few_made, made_parts}
 use Rattle.script_command.proofs.playing.play_plainly.Goals as goal
 
 pub stage_all-requires : goal.stage_all-requires
 stage_all-requires g c = subst (λ (ms : List Module). AllZip CanStage ms c.args.opened.programs.planned.items) (sym c.deref.ensures.value) c.requires.plays.each
 
 pub tell_by_mail-requires-clause-few : goal.tell_by_mail-requires-clause-few
-tell_by_mail-requires-clause-few g c = few_staged c.args.opened _ _ c.requires.plays c.in-Ok.ensures
+tell_by_mail-requires-clause-few g c = few_made CanStage IsStaged _ c.args.opened.programs.planned.items _ c.requires.plays.few c.in-Ok.ensures
 
 pub returns-in-Ok-clause-end : goal.returns-in-Ok-clause-end
 returns-in-Ok-clause-end g c = λ way files name f f' opens.
     c.tell_by_mail.ensures.end way files name f f' opens.play
-    (staged_parts c.args.opened.programs.planned.items c.deref.result.now c.args.opened.programs.modules.items opens.play.parts _ opens.parts_are c.deref.ensures.value c.in-Ok.ensures)
+    (made_parts CanStage IsStaged c.args.opened.programs.planned.items c.deref.result.now c.args.opened.programs.modules.items opens.play.parts _ opens.parts_are c.deref.ensures.value c.in-Ok.ensures)
     opens.detaches_are (opens.strand_is ∙ c.requires.none) opens.mailboxes_are
 
 pub returns-in-Err-clause-end : goal.returns-in-Err-clause-end
