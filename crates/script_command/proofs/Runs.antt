@@ -91,9 +91,12 @@ sources_of files boxes (y ∷ ys) stages ranges none =
 
 -- ---- names
 
-abbrev names_over : ProgramText → List Import → Names
+abbrev pub imports_over : List Import → List (List ℕ)
+imports_over is = filter_map (λ (i : Import). name_if (joined_name i) (imported_func i.kind)) is
+
+abbrev pub names_over : ProgramText → List Import → Names
 names_over t is = record {
-  imports = filter_map (λ (i : Import). name_if (joined_name i) (imported_func i.kind)) is;
+  imports = imports_over is;
   entries = map (λ (e : EntryText). e.name) t.entries;
   len = t.area.len;
 }
