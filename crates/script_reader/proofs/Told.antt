@@ -1,21 +1,23 @@
 -- Reading line by line comes to the script that the statements of all lines tell.
 use Rattle.std.proofs.Common.{arith, ◌≡◌, ℕ, suc, ◌+◌, ◌<◌, ◌≤◌, not, ◌&&◌, ◌||◌, nat_eq, nat_le, Bool, true, false, cond, Option, Some, None, Result, Ok, Err, List, [], ◌∷◌, ◌++◌}
-use Rattle.std.proofs.Common.{map, length, sym, ap, ◌∙◌, subst, refl, append_assoc, append-nil, if◌then◌else◌, lit≤}
+use Rattle.std.proofs.Common.{map, length, sym, ap, ◌∙◌, subst, refl, append_assoc, append-nil, add-one, if◌then◌else◌, lit≤}
 use Rattle.std.specs.Option.{is_some, option_or}
 use Rattle.std.specs.List.{filter, list_any, cons_option}
 use Rattle.std.specs.Str.Lines.{lines}
 use Rattle.std.specs.Str.{bytes_eq}
 use Rattle.std.proofs.lemmas.Bool.{leb-true, leb-false, eq-eqb, ne_eqb}
+use Rattle.std.proofs.lemmas.List.{length_push}
 use Rattle.std.proofs.lemmas.List.Folds.{list_any-append}
 use Rattle.script_model.specs.Script.{DetachText, MailboxText, Script, ScriptFault, breaks, too_many}
-use Rattle.script_model.specs.ScriptLines.{Statement, begins_program, lists_imports, ignores_imports, saves, has_area, has_steps, sets_global, binds, enters, answers, shows, detaches, has_mailbox}
+use Rattle.script_model.specs.ScriptLines.{Statement, begins_program, lists_imports, ignores_imports, saves, has_area, has_steps, sets_global, binds, enters, answers, shows, detaches, has_mailbox, begins_strand}
 use Rattle.script_model.specs.ScriptLines.{line_says}
-use Rattle.script_model.specs.ScriptText.{is_program, is_detach, is_mailbox, declares, is_doubled, mailbox_of, lines_by, tells_imports, tells_policy, tells_area, tells_steps, in_program, is_repeated, has_bad_list, is_early, is_one_too_many, fault_of}
+use Rattle.script_model.specs.ScriptText.{is_program, is_detach, is_mailbox, is_strand, declares, is_doubled, mailbox_of, lines_by, tells_imports, tells_policy, tells_area, tells_steps, in_program, is_repeated, has_bad_list, is_early, is_one_too_many, is_strand_too_many, fault_of}
 use Rattle.script_model.specs.ScriptText.{Numbered, onto, unless_fault, with_line as with_told, statements}
-use Rattle.script_model.specs.ScriptText.{Grouped, grouped_with, grouped, told_by, detach_of, with_programs, script_of, script_text, most_programs}
-use Rattle.script_reader.specs.Drafts.{Draft, begun, more_told, repeats, fault_in, closed_last, Reading, nothing_read, or_fault, with_program, is_declared, with_mailboxes, on_program, with_current}
+use Rattle.script_model.specs.ScriptText.{Grouped, grouped_with, grouped, told_by, detach_of, with_programs, script_of, script_text, most_programs, most_strands}
+use Rattle.script_reader.specs.Drafts.{Draft, begun, more_told, repeats, is_overfull, fault_in, closed_last, Reading, nothing_read, or_fault, with_program, is_declared, with_mailboxes, on_program, with_current}
 use Rattle.script_reader.specs.Drafts.{with_statement, with_line, and_then, read_on}
 use Rattle.script_reader.proofs.Closed.{folded, of_group, all_closed, programs_are}
+use Rattle.script_reader.proofs.StrandLists.{length_kept}
 
 -- ---- what is left to be read
 
@@ -35,6 +37,7 @@ record Tells (told : List Statement) (d : Draft) : Type 0 where
   policy : list_any tells_policy told ≡ is_some d.policy_live
   area : list_any tells_area told ≡ is_some d.area
   steps : list_any tells_steps told ≡ is_some d.steps
+  strands : length (filter is_strand told) ≡ length d.strands
 
 abbrev TellsCurrent : List Statement → Option Draft → Type 0
 TellsCurrent earlier None = Unit {0}
@@ -59,6 +62,7 @@ record IsOther (s : Statement) : Type 0 where
   no_box : (line : ℕ) → mailbox_of line s ≡ None
   declares_none : (name : List ℕ) → declares name s ≡ false
   once : (earlier : List Statement) → is_doubled s earlier ≡ false
+  overfull : (told : List Statement) (d : Draft) → Tells told d → is_strand_too_many s told ≡ is_overfull s d
   repeated : (told : List Statement) (d : Draft) → Tells told d → is_repeated s told ≡ repeats s d
   tells : (line : ℕ) (told : List Statement) (d : Draft) → Tells told d → Tells (s ∷ told) (more_told line s d)
 
@@ -85,8 +89,9 @@ lists_is list = record {
   no_box = λ _. refl;
   declares_none = λ _. refl;
   once = λ _. refl;
+  overfull = λ _ _ _. refl;
   repeated = λ t d h. h.imports;
-  tells = λ l t d h. record { imports = list_or d.list list d.ignore_imports; policy = h.policy; area = h.area; steps = h.steps };
+  tells = λ l t d h. record { imports = list_or d.list list d.ignore_imports; policy = h.policy; area = h.area; steps = h.steps; strands = h.strands };
 }
 
 ignores_is : IsOther ignores_imports
@@ -100,8 +105,9 @@ ignores_is = record {
   no_box = λ _. refl;
   declares_none = λ _. refl;
   once = λ _. refl;
+  overfull = λ _ _ _. refl;
   repeated = λ t d h. h.imports;
-  tells = λ l t d h. record { imports = or_true (is_some d.list); policy = h.policy; area = h.area; steps = h.steps };
+  tells = λ l t d h. record { imports = or_true (is_some d.list); policy = h.policy; area = h.area; steps = h.steps; strands = h.strands };
 }
 
 saves_is : (live : Bool) → IsOther (saves live)
@@ -115,8 +121,9 @@ saves_is live = record {
   no_box = λ _. refl;
   declares_none = λ _. refl;
   once = λ _. refl;
+  overfull = λ _ _ _. refl;
   repeated = λ t d h. h.policy;
-  tells = λ l t d h. record { imports = h.imports; policy = some_or_else d.policy_live live; area = h.area; steps = h.steps };
+  tells = λ l t d h. record { imports = h.imports; policy = some_or_else d.policy_live live; area = h.area; steps = h.steps; strands = h.strands };
 }
 
 area_is : (at len : ℕ) → IsOther (has_area at len)
@@ -130,8 +137,9 @@ area_is at len = record {
   no_box = λ _. refl;
   declares_none = λ _. refl;
   once = λ _. refl;
+  overfull = λ _ _ _. refl;
   repeated = λ t d h. h.area;
-  tells = λ l t d h. record { imports = h.imports; policy = h.policy; area = some_or_else d.area _; steps = h.steps };
+  tells = λ l t d h. record { imports = h.imports; policy = h.policy; area = some_or_else d.area _; steps = h.steps; strands = h.strands };
 }
 
 steps_is : (n : ℕ) → IsOther (has_steps n)
@@ -145,8 +153,9 @@ steps_is n = record {
   no_box = λ _. refl;
   declares_none = λ _. refl;
   once = λ _. refl;
+  overfull = λ _ _ _. refl;
   repeated = λ t d h. h.steps;
-  tells = λ l t d h. record { imports = h.imports; policy = h.policy; area = h.area; steps = some_or_else d.steps n };
+  tells = λ l t d h. record { imports = h.imports; policy = h.policy; area = h.area; steps = some_or_else d.steps n; strands = h.strands };
 }
 
 global_is : (name : List ℕ) (value : _) → IsOther (sets_global name value)
@@ -160,8 +169,9 @@ global_is name value = record {
   no_box = λ _. refl;
   declares_none = λ _. refl;
   once = λ _. refl;
+  overfull = λ _ _ _. refl;
   repeated = λ _ _ _. refl;
-  tells = λ l t d h. record { imports = h.imports; policy = h.policy; area = h.area; steps = h.steps };
+  tells = λ l t d h. record { imports = h.imports; policy = h.policy; area = h.area; steps = h.steps; strands = h.strands };
 }
 
 binds_is : (import device : List ℕ) → IsOther (binds import device)
@@ -175,8 +185,9 @@ binds_is import device = record {
   no_box = λ _. refl;
   declares_none = λ _. refl;
   once = λ _. refl;
+  overfull = λ _ _ _. refl;
   repeated = λ _ _ _. refl;
-  tells = λ l t d h. record { imports = h.imports; policy = h.policy; area = h.area; steps = h.steps };
+  tells = λ l t d h. record { imports = h.imports; policy = h.policy; area = h.area; steps = h.steps; strands = h.strands };
 }
 
 enters_is : (name : List ℕ) (args : _) → IsOther (enters name args)
@@ -190,8 +201,9 @@ enters_is name args = record {
   no_box = λ _. refl;
   declares_none = λ _. refl;
   once = λ _. refl;
+  overfull = λ _ _ _. refl;
   repeated = λ _ _ _. refl;
-  tells = λ l t d h. record { imports = h.imports; policy = h.policy; area = h.area; steps = h.steps };
+  tells = λ l t d h. record { imports = h.imports; policy = h.policy; area = h.area; steps = h.steps; strands = h.strands ∙ sym (length_kept _ d.strands) };
 }
 
 answers_is : (answer : _) → IsOther (answers answer)
@@ -205,8 +217,9 @@ answers_is answer = record {
   no_box = λ _. refl;
   declares_none = λ _. refl;
   once = λ _. refl;
+  overfull = λ _ _ _. refl;
   repeated = λ _ _ _. refl;
-  tells = λ l t d h. record { imports = h.imports; policy = h.policy; area = h.area; steps = h.steps };
+  tells = λ l t d h. record { imports = h.imports; policy = h.policy; area = h.area; steps = h.steps; strands = h.strands ∙ sym (length_kept _ d.strands) };
 }
 
 shows_is : (at len : ℕ) → IsOther (shows at len)
@@ -220,8 +233,31 @@ shows_is at len = record {
   no_box = λ _. refl;
   declares_none = λ _. refl;
   once = λ _. refl;
+  overfull = λ _ _ _. refl;
   repeated = λ _ _ _. refl;
-  tells = λ l t d h. record { imports = h.imports; policy = h.policy; area = h.area; steps = h.steps };
+  tells = λ l t d h. record { imports = h.imports; policy = h.policy; area = h.area; steps = h.steps; strands = h.strands };
+}
+
+strand_is : (at len : ℕ) → IsOther (begins_strand at len)
+strand_is at len = record {
+  program = refl;
+  detach = refl;
+  mailbox = refl;
+  stated = λ _ _. refl;
+  into_first = λ _ _. refl;
+  none = refl;
+  no_box = λ _. refl;
+  declares_none = λ _. refl;
+  once = λ _. refl;
+  overfull = λ t d h. ap (λ (n : ℕ). nat_eq (suc n) most_strands) h.strands;
+  repeated = λ _ _ _. refl;
+  tells = λ l t d h. record {
+    imports = h.imports;
+    policy = h.policy;
+    area = h.area;
+    steps = h.steps;
+    strands = ap suc h.strands ∙ sym (length_push d.strands _ ∙ add-one (length d.strands));
+  };
 }
 
 -- ---- one statement
@@ -235,10 +271,10 @@ module _ (line : ℕ) (earlier : List Statement) (r : Reading) (h : Reflects ear
       → and_then (with_statement line s r) more ≡ ending r (unless_fault (fault_of line earlier s) (numbered line s) rest)
 
 -- what a statement behind others breaks, by its kind and what is known of them
-abbrev fault_by : (line : ℕ) (early great again bad twice : Bool) → Option ScriptFault
-fault_by line early great again bad twice =
-    if early then Some (breaks line 5) else (if great then Some (too_many 17) else (if again then Some (breaks line 6)
-    else (if bad then Some (breaks line 8) else (if twice then Some (breaks line 17) else None))))
+abbrev fault_by : (line : ℕ) (early great full again bad twice : Bool) → Option ScriptFault
+fault_by line early great full again bad twice =
+    if early then Some (breaks line 5) else (if great then Some (too_many 17) else (if full then Some (breaks line 3) else (if again then Some (breaks line 6)
+    else (if bad then Some (breaks line 8) else (if twice then Some (breaks line 17) else None)))))
 
 -- a statement of the program that is told
 module _ (s : Statement) (o : IsOther s) (line : ℕ) where
@@ -267,14 +303,17 @@ module _ (s : Statement) (o : IsOther s) (line : ℕ) where
 
   fault_told : (earlier : List Statement) (d : Draft) → list_any is_program earlier ≡ true → Tells (in_program earlier) d → fault_of line earlier s ≡ fault_in line s d
   fault_told earlier d e h =
-      ap (λ (t : Bool). fault_by line t (is_one_too_many s earlier) (is_repeated s (in_program earlier)) (has_bad_list s) (is_doubled s earlier)) (early_is earlier true e)
-      ∙ ap (λ (t : Bool). fault_by line false t (is_repeated s (in_program earlier)) (has_bad_list s) (is_doubled s earlier)) (great_is earlier)
-      ∙ ap (λ (t : Bool). fault_by line false false t (has_bad_list s) (is_doubled s earlier)) (o.repeated (in_program earlier) d h)
-      ∙ ap (λ (t : Bool). fault_by line false false (repeats s d) (has_bad_list s) t) (o.once earlier)
+      ap (λ (t : Bool). fault_by line t (is_one_too_many s earlier) (is_strand_too_many s (in_program earlier)) (is_repeated s (in_program earlier)) (has_bad_list s) (is_doubled s earlier))
+      (early_is earlier true e)
+      ∙ ap (λ (t : Bool). fault_by line false t (is_strand_too_many s (in_program earlier)) (is_repeated s (in_program earlier)) (has_bad_list s) (is_doubled s earlier)) (great_is earlier)
+      ∙ ap (λ (t : Bool). fault_by line false false t (is_repeated s (in_program earlier)) (has_bad_list s) (is_doubled s earlier)) (o.overfull (in_program earlier) d h)
+      ∙ ap (λ (t : Bool). fault_by line false false (is_overfull s d) t (has_bad_list s) (is_doubled s earlier)) (o.repeated (in_program earlier) d h)
+      ∙ ap (λ (t : Bool). fault_by line false false (is_overfull s d) (repeats s d) (has_bad_list s) t) (o.once earlier)
 
   fault_early : (earlier : List Statement) → list_any is_program earlier ≡ false → fault_of line earlier s ≡ Some (breaks line 5)
   fault_early earlier e =
-      ap (λ (t : Bool). fault_by line t (is_one_too_many s earlier) (is_repeated s (in_program earlier)) (has_bad_list s) (is_doubled s earlier)) (early_is earlier false e)
+      ap (λ (t : Bool). fault_by line t (is_one_too_many s earlier) (is_strand_too_many s (in_program earlier)) (is_repeated s (in_program earlier)) (has_bad_list s) (is_doubled s earlier))
+      (early_is earlier false e)
 
   in_same : (earlier : List Statement) → s ∷ in_program earlier ≡ in_program (s ∷ earlier)
   in_same earlier = ap (λ (t : Bool). if t then [] else s ∷ in_program earlier) (sym o.program)
@@ -319,7 +358,7 @@ detach_goes line device before earlier r h rest more next =
     reflected = record { started = h.started; count = h.count; few = h.few; told = by_current r.current h.told; declared = h.declared } where
       by_current : (c : Option Draft) → TellsCurrent earlier c → TellsCurrent (detaches device before ∷ earlier) c
       by_current None t = tt
-      by_current (Some d) t = record { imports = t.imports; policy = t.policy; area = t.area; steps = t.steps }
+      by_current (Some d) t = record { imports = t.imports; policy = t.policy; area = t.area; steps = t.steps; strands = t.strands }
 
     by_rest : (x : Result (List Numbered) ScriptFault) (c : Option Draft) → r.current ≡ c
         → ending (record r { detached = r.detached ++ record { device = device; before = before } ∷ [] }) x ≡ ending r (onto (numbered line (detaches device before)) x)
@@ -360,7 +399,7 @@ mailbox_goes line name earlier r h rest more next =
     } where
       by_current : (c : Option Draft) → TellsCurrent earlier c → TellsCurrent (has_mailbox name ∷ earlier) c
       by_current None t = tt
-      by_current (Some d) t = record { imports = t.imports; policy = t.policy; area = t.area; steps = t.steps }
+      by_current (Some d) t = record { imports = t.imports; policy = t.policy; area = t.area; steps = t.steps; strands = t.strands }
 
     by_rest : (x : Result (List Numbered) ScriptFault) → ending declared_next x ≡ ending r (onto (numbered line (has_mailbox name)) x)
     by_rest (Err f) = refl
@@ -389,7 +428,7 @@ program_goes line path earlier r h rest more next = by_count (nat_le most_progra
     started = refl;
     count = omega (arith, h.count);
     few = omega (arith, fewer);
-    told = record { imports = refl; policy = refl; area = refl; steps = refl };
+    told = record { imports = refl; policy = refl; area = refl; steps = refl; strands = refl };
     declared = h.declared;
   }
 
@@ -430,6 +469,7 @@ goes (answers answer) line earlier r h rest = other_goes (answers answer) (answe
 goes (shows at len) line earlier r h rest = other_goes (shows at len) (shows_is at len) line earlier r h rest
 goes (detaches device before) line earlier r h rest = detach_goes line device before earlier r h rest
 goes (has_mailbox name) line earlier r h rest = mailbox_goes line name earlier r h rest
+goes (begins_strand at len) line earlier r h rest = other_goes (begins_strand at len) (strand_is at len) line earlier r h rest
 
 -- ---- all lines
 

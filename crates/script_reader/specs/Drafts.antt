@@ -1,13 +1,13 @@
 -- What is known of a script while its lines are read: the program that is being told, and those told before it.
-use Rattle.std.specs.Prelude.{ℕ, suc, ◌+◌, nat_le, ◌||◌, if◌then◌else◌, List, [], ◌∷◌, ◌++◌, Option, Some, None, Bool, true, false, Result, Ok, Err}
+use Rattle.std.specs.Prelude.{ℕ, suc, ◌+◌, nat_eq, nat_le, ◌||◌, if◌then◌else◌, List, [], ◌∷◌, ◌++◌, length, Option, Some, None, Bool, true, false, Result, Ok, Err}
 use Rattle.std.specs.Option.{is_some, option_or, unwrap_or}
 use Rattle.std.specs.List.{list_any}
 use Rattle.std.specs.Str.{bytes_eq}
 use Rattle.wa_model.specs.Outside.{AnswerLine}
-use Rattle.script_model.specs.Script.{GlobalText, BindText, EntryText, ShowText, DetachText, MailboxText, ProgramText, Script, ScriptFault, breaks, too_many}
-use Rattle.script_model.specs.ScriptLines.{Statement, begins_program, lists_imports, ignores_imports, saves, has_area, has_steps, sets_global, binds, enters, answers, shows, detaches, has_mailbox}
+use Rattle.script_model.specs.Script.{GlobalText, BindText, EntryText, ShowText, StrandText, DetachText, MailboxText, ProgramText, Script, ScriptFault, breaks, too_many}
+use Rattle.script_model.specs.ScriptLines.{Statement, begins_program, lists_imports, ignores_imports, saves, has_area, has_steps, sets_global, binds, enters, answers, shows, detaches, has_mailbox, begins_strand}
 use Rattle.script_model.specs.ScriptLines.{line_says}
-use Rattle.script_model.specs.ScriptText.{AreaText, default_steps, most_programs, has_bad_list, with_programs}
+use Rattle.script_model.specs.ScriptText.{AreaText, default_steps, most_programs, most_strands, has_bad_list, with_programs}
 
 -- A program, as far as it is told.
 pub record Draft : Type 0 where
@@ -23,6 +23,7 @@ pub record Draft : Type 0 where
   pub entries : List EntryText
   pub answers : List AnswerLine
   pub shows : List ShowText
+  pub strands : List StrandText
 
 -- a program of which its line alone is told
 abbrev pub begun : (line : ℕ) → (path : List ℕ) → Draft
@@ -39,7 +40,35 @@ begun line path = record {
   entries = [];
   answers = [];
   shows = [];
+  strands = [];
 }
+
+-- the lines of a program's first strand, with more of them unless there are further strands
+abbrev pub to_first : {A : Type 0} → List StrandText → (first more : List A) → List A
+to_first [] first more = first ++ more
+to_first (s ∷ ss) first more = first
+
+-- a list with another last item
+abbrev pub on_last : {A : Type 0} → (A → A) → List A → List A
+on_last f [] = []
+on_last f (x ∷ []) = f x ∷ []
+on_last f (x ∷ y ∷ xs) = x ∷ on_last f (y ∷ xs)
+
+-- a strand with an entry more
+abbrev pub entry_behind : EntryText → StrandText → StrandText
+entry_behind e s = record s { entries = s.entries ++ e ∷ [] }
+
+-- .. with an answer more
+abbrev pub answer_behind : AnswerLine → StrandText → StrandText
+answer_behind a s = record s { answers = s.answers ++ a ∷ [] }
+
+-- an entry more of the strand that is being told
+abbrev pub with_entry : EntryText → Draft → Draft
+with_entry e d = record d { entries = to_first d.strands d.entries (e ∷ []); strands = on_last (entry_behind e) d.strands }
+
+-- an answer more of it
+abbrev pub with_answer : AnswerLine → Draft → Draft
+with_answer a d = record d { answers = to_first d.strands d.answers (a ∷ []); strands = on_last (answer_behind a) d.strands }
 
 -- a statement more of a program
 abbrev pub more_told : (line : ℕ) → Statement → Draft → Draft
@@ -50,9 +79,11 @@ more_told line (has_area at len) d = record d { area = option_or d.area (Some (r
 more_told line (has_steps n) d = record d { steps = option_or d.steps (Some n) }
 more_told line (sets_global name value) d = record d { globals = d.globals ++ record { line = line; name = name; value = value } ∷ [] }
 more_told line (binds import device) d = record d { binds = d.binds ++ record { line = line; import = import; device = device } ∷ [] }
-more_told line (enters name args) d = record d { entries = d.entries ++ record { line = line; name = name; args = args } ∷ [] }
-more_told line (answers answer) d = record d { answers = d.answers ++ answer ∷ [] }
+more_told line (enters name args) d = with_entry (record { line = line; name = name; args = args }) d
+more_told line (answers answer) d = with_answer answer d
 more_told line (shows at len) d = record d { shows = d.shows ++ record { line = line; at = at; len = len } ∷ [] }
+more_told line (begins_strand at len) d =
+    record d { strands = d.strands ++ record { line = line; area = record { at = at; len = len }; entries = []; answers = [] } ∷ [] }
 more_told line _ d = d
 
 -- the program has a line of this kind, of which it may have one
@@ -64,9 +95,15 @@ repeats (has_area at len) d = is_some d.area
 repeats (has_steps n) d = is_some d.steps
 repeats _ d = false
 
+-- a strand begins behind as many as the program may have
+abbrev pub is_overfull : Statement → Draft → Bool
+is_overfull (begins_strand at len) d = nat_eq (suc (length d.strands)) most_strands
+is_overfull _ d = false
+
 -- what a statement breaks in a program
 abbrev pub fault_in : (line : ℕ) → Statement → Draft → Option ScriptFault
-fault_in line s d = if repeats s d then Some (breaks line 6) else (if has_bad_list s then Some (breaks line 8) else None)
+fault_in line s d =
+    if is_overfull s d then Some (breaks line 3) else (if repeats s d then Some (breaks line 6) else (if has_bad_list s then Some (breaks line 8) else None))
 
 -- a program that is told, where it has an area
 abbrev pub told_with : Draft → AreaText → ProgramText
@@ -84,6 +121,7 @@ told_with d a = record {
   entries = d.entries;
   answers = d.answers;
   shows = d.shows;
+  strands = d.strands;
 }
 
 -- a program behind others, where it has an area, which rule 7 asks for

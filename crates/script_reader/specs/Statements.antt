@@ -3,7 +3,7 @@ use Rattle.std.specs.Prelude.{Option, List, ℕ}
 use Rattle.std.specs.List.{find}
 use Rattle.std.specs.Option.{option_map}
 use Rattle.std.specs.Str.{bytes_eq}
-use Rattle.script_model.specs.ScriptLines.{Statement, begins_program, lists_imports, ignores_imports, saves, has_area, has_steps, sets_global, binds, enters, answers, shows, detaches, has_mailbox, Keyword, program_word, imports_word, ignore_imports_word, save_word, area_word, steps_word, global_word, device_word, enter_word, answer_word, show_word, detach_word, mailbox_word, Spelling}
+use Rattle.script_model.specs.ScriptLines.{Statement, begins_program, lists_imports, ignores_imports, saves, has_area, has_steps, sets_global, binds, enters, answers, shows, detaches, has_mailbox, begins_strand, Keyword, program_word, imports_word, ignore_imports_word, save_word, area_word, steps_word, global_word, device_word, enter_word, answer_word, show_word, detach_word, mailbox_word, strand_word, Spelling}
 use Rattle.wa_model.specs.View.{answer_line_of}
 use Rattle.script_reader.specs.declared.statements.Statement.{Statement as StatementValue}
 use Rattle.script_reader.specs.declared.statements.Statement.TheVariants as S
@@ -25,6 +25,7 @@ keyword_of K.Answer = answer_word
 keyword_of K.Show = show_word
 keyword_of K.Detach = detach_word
 keyword_of K.Mailbox = mailbox_word
+keyword_of K.Strand = strand_word
 
 -- the keyword that a word is, among some of them
 abbrev pub keyword_among : List Spelling → List ℕ → Option Keyword
@@ -45,6 +46,7 @@ statement_of (S.Answer line) = answers (answer_line_of line)
 statement_of (S.Show at len) = shows at len
 statement_of (S.Detach detach) = detaches detach.device detach.before
 statement_of (S.Mailbox name) = has_mailbox name
+statement_of (S.Strand area) = begins_strand area.at area.len
 
 -- what a line says, if anything
 abbrev pub line_of : Option StatementValue → Option Statement

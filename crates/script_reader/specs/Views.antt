@@ -11,6 +11,7 @@ use Rattle.script_reader.specs.declared.script.GlobalText.{GlobalText}
 use Rattle.script_reader.specs.declared.script.BindText.{BindText}
 use Rattle.script_reader.specs.declared.script.EntryText.{EntryText}
 use Rattle.script_reader.specs.declared.script.ShowText.{ShowText}
+use Rattle.script_reader.specs.declared.script.StrandText.{StrandText}
 use Rattle.script_reader.specs.declared.script.ProgramText.{ProgramText}
 use Rattle.script_reader.specs.declared.script.Script.{Script}
 use Rattle.script_reader.specs.declared.drafts.Draft.{Draft}
@@ -39,6 +40,10 @@ show_of s = record { line = s.line; at = s.at; len = s.len }
 abbrev pub detach_of : Detach → T.DetachText
 detach_of d = record { device = d.device; before = d.before }
 
+-- a further strand
+abbrev pub strand_of : StrandText → T.StrandText
+strand_of s = record { line = s.line; area = s.area; entries = map entry_of s.entries.items; answers = map answer_line_of s.answers.items }
+
 -- a program
 abbrev pub program_of : ProgramText → T.ProgramText
 program_of p = record {
@@ -55,6 +60,7 @@ program_of p = record {
   entries = map entry_of p.entries.items;
   answers = map answer_line_of p.answers.items;
   shows = map show_of p.shows.items;
+  strands = map strand_of p.strands.items;
 }
 
 -- a script
@@ -82,6 +88,7 @@ draft_of d = record {
   entries = map entry_of d.entries.items;
   answers = map answer_line_of d.answers.items;
   shows = map show_of d.shows.items;
+  strands = map strand_of d.strands.items;
 }
 
 -- the programs, unless one at this line lacks its area

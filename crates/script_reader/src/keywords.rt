@@ -21,6 +21,7 @@ pub(crate) enum Keyword {
     Show,
     Detach,
     Mailbox,
+    Strand,
 }
 
 pub(crate) fn keyword_in(word: &str) -> Option<Keyword>
@@ -85,6 +86,9 @@ fn behind_detach(word: &str) -> Option<Keyword>
 {
     if "mailbox" == word {
         return Some(Keyword::Mailbox);
+    }
+    if "strand" == word {
+        return Some(Keyword::Strand);
     }
     None
 }

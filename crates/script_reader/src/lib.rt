@@ -12,7 +12,7 @@
 //!
 //! The text is read in one pass, which copies a word where it is kept. Each line goes through four steps (`line_says` of `script_model`,
 //! the least rule where more are broken): it is UTF-8, and is cut into words at spaces and tabs, in which `%hh` stands for a byte; its
-//! first word is one of thirteen; the words behind it are of that line's form; and their numbers, values and bytes are of theirs.
+//! first word is one of fourteen; the words behind it are of that line's form; and their numbers, values and bytes are of theirs.
 //!
 //! - `word_fault`, `words`, `numbers`, `bytes`: why a line says nothing; words, numbers and values in decimal, bytes in hexadecimal digits.
 //! - `keywords`, `answers`, `statements`: first words, lines that answer a call, and what a line says.
@@ -38,5 +38,6 @@ pub use faults::ScriptFault;
 pub use numbers::number_within;
 pub use reading::read_script;
 pub use script::{
-    BindText, EntryText, GlobalText, MailboxText, ProgramText, Script, ShowText, sharing_line,
+    BindText, EntryText, GlobalText, MailboxText, ProgramText, Script, ShowText, StrandText,
+    strand_line, unsaved_line,
 };

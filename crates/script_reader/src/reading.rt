@@ -3,7 +3,8 @@
 ghost use Rattle.std.specs.Prelude.{◌≡◌, ◌≤◌, length, OnOk};
 ghost use Rattle.std.specs.Option.{option_map};
 ghost use Rattle.script_model.specs.ScriptLines.{line_says};
-ghost use Rattle.script_model.specs.ScriptText.{script_text};
+ghost use Rattle.script_model.specs.Script.{strand_line};
+ghost use Rattle.script_model.specs.ScriptText.{mixed_line, script_text, unless_mixed};
 ghost use Rattle.script_reader.specs.Statements.{line_of, statement_of};
 ghost use Rattle.script_reader.specs.Drafts.{closed, closed_last, ended, nothing_read, on_mailboxes, with_line, with_program, with_statement};
 ghost use Rattle.script_reader.specs.Views.{Reads, draft_of, programs_of, reading_of, script_of};
@@ -12,7 +13,7 @@ use crate::drafts::{Draft, begin_draft, finished, put, put_statement as put_into
 use crate::faults::ScriptFault;
 use crate::lines::first_line;
 use crate::mailboxes::Mailboxes;
-use crate::script::{MailboxText, ProgramText, Script};
+use crate::script::{MailboxText, ProgramText, Script, strand_line};
 use crate::statements::{Statement, read_line as read_statement};
 use crate::word_fault::LineFault;
 use std::alloc::{AllocError, Global};
@@ -186,10 +187,30 @@ fn ended(reading: Reading) -> Result<Script, ScriptFault>
     close_last(&mut programs, &mut missing, current)?;
     match missing {
         Some(line) => Err(ScriptFault::Rule { line, rule: 7 }),
-        None => Ok(Script {
+        None => unless_mixed(Script {
             programs,
             detaches,
             mailboxes: mailboxes.into_texts(),
         }),
     }
+}
+
+// A script, unless it has a mailbox and a further strand both.
+fn unless_mixed(script: Script) -> Result<Script, ScriptFault>
+    ensures { Reads script_of result (unless_mixed (mixed_line (script_of script).mailboxes (strand_line (script_of script))) (script_of script)) }
+{
+    match mixed_line(&script) {
+        Some(line) => Err(ScriptFault::Rule { line, rule: 20 }),
+        None => Ok(script),
+    }
+}
+
+// The first line that begins a further strand, where there is a mailbox besides.
+fn mixed_line(script: &Script) -> Option<u32>
+    ensures { result ≡ mixed_line (script_of script.now).mailboxes (strand_line (script_of script.now)) }
+{
+    if script.mailboxes.is_empty() {
+        return None;
+    }
+    strand_line(script)
 }

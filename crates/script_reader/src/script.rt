@@ -1,7 +1,7 @@
 //! A script as it was read: its programs with their lines, the devices that it takes out, and its mailboxes.
 
 ghost use Rattle.std.specs.Prelude.{◌≡◌};
-ghost use Rattle.script_model.specs.Script.{device_line, lesser_line, mailbox_line, sharing_line};
+ghost use Rattle.script_model.specs.Script.{device_line, lesser_line, mailbox_line, strand_line, unsaved_line};
 ghost use Rattle.script_reader.specs.Views.{script_of};
 
 use wa_model::{AnswerLine, Area, Detach};
@@ -39,9 +39,18 @@ pub struct ShowText {
     pub len: u32,
 }
 
+/// A further strand of a program, told at this line: its area, and its entries and answer lines in order.
+#[derive(Drop)]
+pub struct StrandText {
+    pub line: u32,
+    pub area: Area,
+    pub entries: Vec<EntryText>,
+    pub answers: Vec<AnswerLine>,
+}
+
 /// A program: the line at which it begins, the path of its module, its list of imports where it has one, whether none is
 /// listed, whether live locals alone are saved, its area and the line of it, its number of steps, and its lines of each
-/// kind in order.
+/// kind in order; those of entries and answers are its first strand's, behind which come the others.
 #[derive(Drop)]
 pub struct ProgramText {
     pub line: u32,
@@ -57,6 +66,7 @@ pub struct ProgramText {
     pub entries: Vec<EntryText>,
     pub answers: Vec<AnswerLine>,
     pub shows: Vec<ShowText>,
+    pub strands: Vec<StrandText>,
 }
 
 /// A mailbox, by which programs wait for one another, declared at this line.
@@ -74,11 +84,24 @@ pub struct Script {
     pub mailboxes: Vec<MailboxText>,
 }
 
-/// The line of the first `device` or `mailbox` line of a script, where it has one.
-pub fn sharing_line(script: &Script) -> Option<u32>
-    ensures { result ≡ sharing_line (script_of script.now) }
+/// The line of the first `device`, `mailbox` or `strand` line of a script, where it has one: of what no snapshot holds.
+pub fn unsaved_line(script: &Script) -> Option<u32>
+    ensures { result ≡ unsaved_line (script_of script.now) }
 {
-    lesser_line(device_line(script), mailbox_line(script))
+    let beside = lesser_line(mailbox_line(script), strand_line(script));
+    lesser_line(device_line(script), beside)
+}
+
+/// The line of the first `strand` line of a script, where it has one.
+pub fn strand_line(script: &Script) -> Option<u32>
+    ensures { result ≡ strand_line (script_of script.now) }
+{
+    for program in &script.programs {
+        if let Some(strand) = program.strands.first() {
+            return Some(strand.line);
+        }
+    }
+    None
 }
 
 fn mailbox_line(script: &Script) -> Option<u32>

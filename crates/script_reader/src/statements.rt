@@ -1,6 +1,6 @@
 //! Statements: what a line says, by its first word and those behind it.
 
-ghost use Rattle.script_model.specs.ScriptLines.{all_values, area_word, detach_word, device_word, enter_word, global_word, ignore_imports_word, imports_word, line_says, mailbox_word, program_word, save_word, says, says_policy, says_with, show_word, steps_word, words_say};
+ghost use Rattle.script_model.specs.ScriptLines.{all_values, area_word, detach_word, device_word, enter_word, global_word, ignore_imports_word, imports_word, line_says, mailbox_word, program_word, save_word, says, says_policy, says_with, show_word, steps_word, strand_word, words_say};
 ghost use Rattle.std.specs.Prelude.{◌≡◌, ◌∷◌, ◌++◌, [], IfOk, OnOk, Some};
 ghost use Rattle.std.specs.Option.{option_map};
 ghost use Rattle.script_reader.specs.Reading.{Reads, or_breaks};
@@ -42,6 +42,8 @@ pub enum Statement {
     Detach(Detach),
     /// A mailbox of this name is declared.
     Mailbox(Name),
+    /// A further strand of the program begins, whose area is this.
+    Strand(Area),
 }
 
 /// What a line says, its end aside: nothing where it has no words or begins with `#`.
@@ -95,6 +97,7 @@ fn says(alloc: Global, keyword: Keyword, words: &[Name]) -> Result<Statement, Li
         Keyword::Show => show_line(words),
         Keyword::Detach => detach_line(alloc, words),
         Keyword::Mailbox => mailbox_line(alloc, words),
+        Keyword::Strand => strand_line(words),
     }
 }
 
@@ -260,6 +263,19 @@ fn mailbox_line(alloc: Global, words: &[Name]) -> Result<Statement, LineFault>
 {
     match words {
         [name] => Ok(Statement::Mailbox(copied(alloc, name)?)),
+        _ => Err(LineFault::Rule(3)),
+    }
+}
+
+fn strand_line(words: &[Name]) -> Result<Statement, LineFault>
+    ensures { Reads statement_of result (says strand_word words.now) }
+{
+    match words {
+        [at, len] => {
+            let at = told(u32_in(at.as_str()))?;
+            let len = told(u32_in(len.as_str()))?;
+            Ok(Statement::Strand(Area { at, len }))
+        }
         _ => Err(LineFault::Rule(3)),
     }
 }

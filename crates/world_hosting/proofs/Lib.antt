@@ -14,8 +14,10 @@ pub mod PutBackAll
 pub mod UpToEvents
 pub mod ScriptPlans
 pub mod ScriptPrograms
+pub mod ScriptStrands
 pub mod SetUp
 pub mod Starts
+pub mod StatementsTold
 pub mod StoryEnds
 pub mod Thawed
 pub mod TurnCounts

@@ -12,7 +12,7 @@ use Rattle.wa_model.specs.declared.answers.Said.{Said}
 use Rattle.wa_model.specs.declared.answers.Said.TheVariants as S
 use Rattle.wa_model.specs.Plan.{AnswerFits, PokeFits, SaidFits}
 use Rattle.wa_model.specs.Outside.{Poke}
-use Rattle.script_model.specs.ScriptLines.{Statement, begins_program, lists_imports, ignores_imports, saves, has_area, has_steps, sets_global, binds, enters, answers, shows, detaches, Keyword, program_word, imports_word, ignore_imports_word, save_word, area_word, steps_word, global_word, device_word, enter_word, answer_word, show_word, detach_word, mailbox_word, Meaning, PokeWords, hex_value, joined_digits, hex_bytes, hex_in, if_within, number_in, number_within, integer_in, negative, i32_in, i64_in, u32_in, all_values, value_in, unless_none, says_two, says_policy, pokes_in, poke_of, all_pokes, result_in, answer_with, says_answer, says, says_with, keyword_in, words_say, line_words, line_says}
+use Rattle.script_model.specs.ScriptLines.{Statement, begins_program, lists_imports, ignores_imports, saves, has_area, has_steps, sets_global, binds, enters, answers, shows, detaches, begins_strand, Keyword, program_word, imports_word, ignore_imports_word, save_word, area_word, steps_word, global_word, device_word, enter_word, answer_word, show_word, detach_word, mailbox_word, strand_word, Meaning, PokeWords, hex_value, joined_digits, hex_bytes, hex_in, if_within, number_in, number_within, integer_in, negative, i32_in, i64_in, u32_in, all_values, value_in, unless_none, says_two, says_policy, pokes_in, poke_of, all_pokes, result_in, answer_with, says_answer, says, says_with, keyword_in, words_say, line_words, line_says}
 use Rattle.script_model.specs.ScriptLines as L
 use Rattle.host_laws.specs.Answering.{IsShort}
 use Rattle.pause_host.specs.Moves.{HasShortPokes}
@@ -340,6 +340,10 @@ said_fits detach_word (a ∷ b ∷ c ∷ more) = tt
 said_fits mailbox_word [] = tt
 said_fits mailbox_word (a ∷ []) = tt
 said_fits mailbox_word (a ∷ b ∷ more) = tt
+said_fits strand_word [] = tt
+said_fits strand_word (a ∷ []) = tt
+said_fits strand_word (a ∷ b ∷ []) = two_said begins_strand (u32_in a) (u32_in b) (λ x y. tt)
+said_fits strand_word (a ∷ b ∷ c ∷ more) = tt
 
 said_with : (k : Option Keyword) (words : List (List ℕ)) → MeaningFits (says_with k words)
 said_with None words = tt

@@ -6,13 +6,13 @@ use Rattle.wa_types.specs.Syntax.{Module}
 use Rattle.wa_model.specs.declared.answers.Detach.{Detach}
 use Rattle.wa_model.specs.Outside.{AnswerLine, Line}
 use Rattle.wa_model.specs.Plan.{AnswerFits, Outcome}
-use Rattle.script_model.specs.Script.{EntryText, GlobalText, ProgramText, ShowText}
+use Rattle.script_model.specs.Script.{EntryText, GlobalText, ProgramText, ShowText, StrandText}
 use Rattle.script_model.specs.Transcript.{Names, Transcript, event_lines}
 use Rattle.world_model.specs.World.{Device, Look, Program, ProtocolWorldFrom, at_start, ends_turn}
 use Rattle.event_order.specs.Left.{Counted}
 use Rattle.pause_host.specs.Moves.{HasShortPokes}
 use Rattle.pause_host.specs.Settings.{calls_of}
-use Rattle.script_setup.specs.SetUpRules.{SetUp, named_entry, program_names}
+use Rattle.script_setup.specs.SetUpRules.{SetUp, entries_in, named_entry, program_names}
 use Rattle.many_host.specs.Calls.{AreLeft, devices_of}
 use Rattle.many_host.specs.Turns.{behind as number_behind}
 use Rattle.vault_port.specs.declared.whole.PutFault.{PutFault}
@@ -24,18 +24,33 @@ use Rattle.world_hosting.specs.Counts.{AreMet, Took, ended_in}
 
 -- ---- what is asked of a program
 
--- There is a step, and no more than 1,000,000,000; entries are numbered in 32 bits; pokes are short.
+-- Entries of a further strand are numbered in 32 bits; its pokes are short.
+pub record FitsStrand (s : StrandText) : Type 0 where
+  pub entries : length s.entries < 2 ^ 32
+  pub pokes : All HasShortPokes s.answers
+
+-- There is a step, and no more than 1,000,000,000; entries are numbered in 32 bits, in all strands together too; pokes are short; there are
+-- at most 15 further strands.
 pub record FitsPlan (t : ProgramText) : Type 0 where
   pub some_steps : 1 ≤ t.steps
   pub few_steps : t.steps ≤ 1000000000
   pub entries : length t.entries < 2 ^ 32
   pub pokes : All HasShortPokes t.answers
+  pub few : length t.strands ≤ 15
+  pub all : length (entries_in t) < 2 ^ 32
+  pub strands : All FitsStrand t.strands
+
+-- Values of a further strand, and the numbers of its answers, lie in the ranges of their types.
+pub record HasStrandRanges (s : StrandText) : Type 0 where
+  pub entries : All (λ (e : EntryText). All value_fits e.args) s.entries
+  pub answers : All (λ (l : AnswerLine). AnswerFits l.answer) s.answers
 
 -- Values, and the numbers of answers, lie in the ranges of their types.
 pub record HasRanges (t : ProgramText) : Type 0 where
   pub globals : All (λ (g : GlobalText). value_fits g.value) t.globals
   pub entries : All (λ (e : EntryText). All value_fits e.args) t.entries
   pub answers : All (λ (l : AnswerLine). AnswerFits l.answer) t.answers
+  pub strands : All HasStrandRanges t.strands
 
 -- Where it is told which function imports are listed, it is told of each.
 abbrev pub IsListing : Module → Option (List Bool) → Type 0
