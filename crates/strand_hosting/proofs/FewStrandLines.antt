@@ -1,5 +1,5 @@
 -- How many lines programs with strands tell: each event tells one note at least, and with it at most as many lines of shows as there are shows.
-use Rattle.std.proofs.Common.{arith, ◌≡◌, ◌≤◌, ◌<◌, ℕ, zero, suc, ◌+◌, ◌*◌, ◌^◌, List, [], ◌∷◌, ◌++◌, length, length-append, map, drop, Some, None, Bool, true, false, cond, MatchBool, slice_get, slice_set, refl, sym, ap, ◌∙◌}
+use Rattle.std.proofs.Common.{arith, ◌≡◌, ◌≤◌, ◌<◌, ℕ, zero, suc, ◌+◌, ◌*◌, ◌^◌, List, [], ◌∷◌, ◌++◌, length, length-append, map, Option, Some, None, Bool, true, false, cond, MatchBool, slice_get, slice_set, refl, sym, ap, ◌∙◌}
 use Rattle.std.specs.Prelude.{nat_eq}
 use Rattle.std.specs.List.{cons_option}
 use Rattle.std.proofs.lemmas.List.{length-map}
@@ -48,7 +48,7 @@ few_by : (g : StrandsInWorld) (n : ℕ) → length g.program.strands ≤ 16 → 
 few_by g zero few = omega (arith, few)
 few_by g (suc n) few = let rest = few_by g n few in omega (arith, rest, few)
 
-few_of : (g : StrandsInWorld) (t : ProgramTeller) (due : _) → IsToldSo g t due → length t.told ≤ 21000000022
+few_of : (g : StrandsInWorld) (t : ProgramTeller) (due : Option ℕ) → IsToldSo g t due → length t.told ≤ 21000000022
 few_of g t due so =
     let r = so.story.begins [] in
     let most = story_length g (met_and t.strands []) (t.told ++ r.0) r.1 in

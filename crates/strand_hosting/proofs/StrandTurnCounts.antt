@@ -49,7 +49,7 @@ module _ (due p k : ℕ) where
   turn_once looks [] h = absurd h
   turn_once looks (x ∷ xs) h =
       let parts : strand_turn_count (lines_of (events_with_looks looks (x ∷ xs)))
-          ≡ strand_turn_count (lines_of (x.event ∷ looks_after looks x x.event)) + strand_turn_count (lines_of (events_with_looks looks xs)) =
+      ≡ strand_turn_count (lines_of (x.event ∷ looks_after looks x x.event)) + strand_turn_count (lines_of (events_with_looks looks xs)) =
       ap strand_turn_count (map-append (line_of due p k) (x.event ∷ looks_after looks x x.event) (events_with_looks looks xs))
       ∙ strand_turns_append (lines_of (x.event ∷ looks_after looks x x.event)) (lines_of (events_with_looks looks xs)) in
       let first : strand_turn_count (lines_of (x.event ∷ looks_after looks x x.event)) ≡ closes ends_turn x.event + 0 =
