@@ -95,7 +95,7 @@ answers_same (s ∷ ss) (x ∷ xs) h =
 
 pub as_many_strands : (ss : List StrandText) (xs : List StrandPart) → AllZip IsStrandPart ss xs → length xs ≡ length ss
 as_many_strands ss xs h =
-    let areas = ap (λ (as : List Area). length as) (areas_same ss xs h) in
+    let areas = ap (λ (xs : List Area). length xs) (areas_same ss xs h) in
     let one = length-map xs (λ (x : StrandPart). x.area) in
     let other = length-map ss (λ (s : StrandText). s.area) in
     omega (arith, areas, one, other)

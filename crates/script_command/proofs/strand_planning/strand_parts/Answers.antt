@@ -14,8 +14,7 @@ loop-text-init c = ([], tt, refl)
 pub loop-text-preserved : goal.loop-text-preserved
 loop-text-preserved c =
     let before = c.loop-text.invariant in
-    let one = strand_of c.in-Some.text in
-    (
+    let one = strand_of c.in-Some.text in (
       before.0 ++ one ∷ [],
       subst (AllZip IsStrandPart (before.0 ++ one ∷ [])) (sym c.in_ok-push.ensures.items) (zip_more IsStrandPart before.0 c.loop-text.parts.items one c.in_ok-part.part before.1 c.in_ok-part.ensures),
       before.2 ∙ ap (λ (ts : List StrandValue). before.0 ++ map strand_of ts) c.in-Some.ensures.steps.0 ∙ sym (append_assoc before.0 (one ∷ []) (map strand_of c.next.new.self.rest.items)),
