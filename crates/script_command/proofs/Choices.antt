@@ -8,9 +8,9 @@ use Rattle.call_graph.specs.Lists.{Blames}
 use Rattle.call_graph.specs.declared.lists.ListFault.{ListFault}
 use Rattle.call_graph.specs.declared.lists.ListFault.TheVariants.{Memory, EmptyEntry, NoDot, StarInside}
 use Rattle.script_model.specs.Command.{choice_said, listed_choice}
-use Rattle.script_model.specs.Script.{ProgramText, Script, ScriptFault, breaks, too_many}
-use Rattle.script_model.specs.ScriptLines.{Statement, begins_program, lists_imports, ignores_imports, saves, has_area, has_steps, sets_global, binds, enters, answers, shows, detaches, has_mailbox, line_says}
-use Rattle.script_model.specs.ScriptText.{Numbered, Group, Grouped, AreaText, most_programs, tells_imports, in_program, is_repeated, is_error, has_bad_list, is_doubled, is_early, is_one_too_many, fault_of, unless_fault, with_line, statements, grouped_with, grouped, list_of_statement, is_ignore, area_of, detach_of, mailbox_of, told_by, lines_by, program_of, with_program, programs_of, with_programs, script_of, script_text}
+use Rattle.script_model.specs.Script.{ProgramText, Script, ScriptFault, breaks, strand_line, too_many}
+use Rattle.script_model.specs.ScriptLines.{Statement, begins_program, lists_imports, ignores_imports, saves, has_area, has_steps, sets_global, binds, enters, answers, shows, detaches, has_mailbox, begins_strand, line_says}
+use Rattle.script_model.specs.ScriptText.{Numbered, Group, Grouped, AreaText, most_programs, tells_imports, in_program, is_repeated, is_error, has_bad_list, is_doubled, is_early, is_one_too_many, is_strand_too_many, fault_of, unless_fault, with_line, statements, grouped_with, grouped, list_of_statement, is_ignore, area_of, detach_of, mailbox_of, told_by, lines_by, program_of, with_program, programs_of, mixed_line, unless_mixed, with_programs, script_of, script_text}
 use Rattle.script_command.specs.Playing.{HasChoice}
 
 -- ---- statements
@@ -21,16 +21,19 @@ Lawful earlier [] = Unit {0}
 Lawful earlier (s ∷ ss) = (is_repeated s.says (in_program earlier) ≡ false) × (has_bad_list s.says ≡ false) × Lawful (s.says ∷ earlier) ss
 
 no_fault : (line : ℕ) (earlier : List Statement) (s : Statement) → fault_of line earlier s ≡ None → (is_repeated s (in_program earlier) ≡ false) × (has_bad_list s ≡ false)
-no_fault line earlier s e = by (is_early s earlier) (is_one_too_many s earlier) (is_repeated s (in_program earlier)) (has_bad_list s) (is_doubled s earlier) e where
-  by : (a b c d t : Bool)
-      → (if a then Some (breaks line 5) else (if b then Some (too_many (suc most_programs)) else (if c then Some (breaks line 6) else (if d then Some (breaks line 8)
-      else (if t then Some (breaks line 17) else None))))) ≡ None
-      → (c ≡ false) × (d ≡ false)
-  by true b c d t k = cc
-  by false true c d t k = cc
-  by false false true d t k = cc
-  by false false false true t k = cc
-  by false false false false t k = (refl, refl)
+no_fault line earlier s e =
+    by (is_early s earlier) (is_one_too_many s earlier) (is_strand_too_many s (in_program earlier)) (is_repeated s (in_program earlier)) (has_bad_list s) (is_doubled s earlier) e
+  where
+    by : (a b x c d t : Bool)
+        → (if a then Some (breaks line 5) else (if b then Some (too_many (suc most_programs)) else (if x then Some (breaks line 3) else (if c then Some (breaks line 6)
+        else (if d then Some (breaks line 8) else (if t then Some (breaks line 17) else None)))))) ≡ None
+        → (c ≡ false) × (d ≡ false)
+    by true b x c d t k = cc
+    by false true x c d t k = cc
+    by false false true c d t k = cc
+    by false false false true d t k = cc
+    by false false false false true t k = cc
+    by false false false false false t k = (refl, refl)
 
 all_lawful : (ls : List (List ℕ)) (line : ℕ) (earlier : List Statement) (ss : List Numbered) → statements line earlier ls ≡ Ok ss → Lawful earlier ss
 all_lawful [] line earlier ss e =
@@ -124,6 +127,7 @@ one_chosen line (answers answer) earlier g r b h = record { first = other_chosen
 one_chosen line (shows at len) earlier g r b h = record { first = other_chosen (begun earlier) line (shows at len) g.first refl refl h.first; groups = h.groups }
 one_chosen line (detaches device before) earlier g r b h = record { first = other_chosen (begun earlier) line (detaches device before) g.first refl refl h.first; groups = h.groups }
 one_chosen line (has_mailbox name) earlier g r b h = record { first = other_chosen (begun earlier) line (has_mailbox name) g.first refl refl h.first; groups = h.groups }
+one_chosen line (begins_strand at len) earlier g r b h = record { first = other_chosen (begun earlier) line (begins_strand at len) g.first refl refl h.first; groups = h.groups }
 
 all_chosen : (ss : List Numbered) (earlier : List Statement) → Lawful earlier ss → AreChosen earlier (grouped ss)
 all_chosen [] earlier h = record { first = none_chosen (begun earlier); groups = All-nil GroupChosen }
@@ -151,13 +155,19 @@ abbrev programs_in : Result Script ScriptFault → List ProgramText
 programs_in (Ok x) = x.programs
 programs_in (Err f) = []
 
+-- a script that has no mailbox beside a strand
+programs_kept : (o : Option ℕ) (x s : Script) → unless_mixed o x ≡ Ok s → x.programs ≡ s.programs
+programs_kept None x s e = ap programs_in e
+programs_kept (Some line) x s e = cc
+
 script_chooses : (ls : List (List ℕ)) (r : Result (List Numbered) ScriptFault) → statements 1 [] ls ≡ r → (s : Script) → script_of r ≡ Ok s → All HasChoice s.programs
 script_chooses ls (Err f) is s e = cc
 script_chooses ls (Ok ss) is s e = by (programs_of (grouped ss).groups) refl e where
   by : (r : Result (List ProgramText) ScriptFault) → programs_of (grouped ss).groups ≡ r → with_programs (told_by detach_of ss) (lines_by mailbox_of ss) r ≡ Ok s → All HasChoice s.programs
   by (Err f) are k = cc
   by (Ok programs) are k =
-      let same : programs ≡ s.programs = ap programs_in k in
+      let whole : Script = record { programs = programs; detaches = told_by detach_of ss; mailboxes = lines_by mailbox_of ss } in
+      let same : programs ≡ s.programs = programs_kept (mixed_line (lines_by mailbox_of ss) (strand_line whole)) whole s k in
       subst (All HasChoice) same (programs_choose (grouped ss).groups programs (all_chosen ss [] (all_lawful ls 1 [] ss is)).groups are)
 
 pub scripts_choose : (bytes : List ℕ) (s : Script) → script_text bytes ≡ Ok s → All HasChoice s.programs
