@@ -1,5 +1,5 @@
 -- The names of the lines of further strands, one after another.
-use Rattle.std.proofs.Common.{map}
+use Rattle.std.proofs.Common.{append-nil, map, sym}
 use Rattle.wa_types.specs.View.{module_of}
 use Rattle.script_reader.specs.declared.script.StrandText.{StrandText}
 use Rattle.script_reader.specs.Views.{strand_of}
@@ -7,6 +7,9 @@ use Rattle.script_setup.specs.SetUpRules.{strand_names}
 use Rattle.transcript.specs.Printing.{names_of}
 use Rattle.script_command.proofs.PutNames.{put_all, put_next}
 use Rattle.script_command.proofs.strand_planning.put_names.Goals as goal
+
+pub loop-strand-init : goal.loop-strand-init
+loop-strand-init c = sym (append-nil (map names_of c.args.names.now.items))
 
 pub loop-strand-preserved : goal.loop-strand-preserved
 loop-strand-preserved c =
