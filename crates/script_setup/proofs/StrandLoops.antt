@@ -3,7 +3,7 @@ use Rattle.std.proofs.Common.{arith, ◌≡◌, ℕ, ◌+◌, ◌-◌, ◌<◌, 
 use Rattle.std.specs.List.{list_any}
 use Rattle.std.specs.Option.{option_map, unwrap_or}
 use Rattle.std.proofs.lemmas.List.{length-map, map-append, map_more}
-use Rattle.std.proofs.lemmas.Option.{slice_get-map, slice_get_within}
+use Rattle.std.proofs.lemmas.Option.{slice_get-map, slice_get_read}
 use Rattle.wa_model.specs.declared.answers.Area.{Area}
 use Rattle.wa_model.specs.Blocking.{overlap}
 use Rattle.run_theory.proofs.GrownSteps.{front}
@@ -47,6 +47,15 @@ module _ (pages : ℕ) (xs : List StrandText) (i : ℕ) (a whole : AreaText) (be
   asked_last le = before ∙ ap (asked_from pages a) (none_left xs i le)
 
 -- ---- areas that overlap
+
+-- a test that the first part decides, and one that it leaves to the second
+pub or_first : (a b r : Bool) → r ≡ a → r ≡ true → (a || b) ≡ r
+or_first true b r e t = sym t
+or_first false b r e t = cc
+
+pub or_second : (a b r s : Bool) → r ≡ a → r ≡ false → s ≡ b → (a || b) ≡ s
+or_second true b r s e f g = cc
+or_second false b r s e f g = sym g
 
 or_false : (b : Bool) → (b || false) ≡ b
 or_false true = refl
@@ -124,16 +133,35 @@ all_put xs i done whole le before = sym (before ∙ ap (λ (ss : List T.StrandTe
 abbrev line_of : Option T.EntryText → ℕ
 line_of o = unwrap_or (option_map (λ (e : T.EntryText). e.line) o) 0
 
-module _ (es : List EntryText) (more : List T.EntryText) (i : ℕ) where
+module _ (es ys : List EntryText) (same : ys ≡ es) (more : List T.EntryText) (i : ℕ) where
   -- an entry that is one of the first
-  pub line_here : (e : EntryText) → slice_get es i ≡ Some e → e.line ≡ line_among (map entry_of es ++ more) i
-  line_here e is =
+  pub line_here : (e : EntryText) → i < length ys → e ≡ get_or ys i e → e.line ≡ line_among (map entry_of es ++ more) i
+  line_here e lt at =
       let n = length-map es entry_of in
-      let lt = slice_get_within es i e is in
-      sym (ap line_of (front (map entry_of es) more i (omega (arith, n, lt)) ∙ slice_get-map entry_of es i ∙ ap (option_map entry_of) is))
+      let m = ap length same in
+      let there : slice_get es i ≡ Some e = ap (λ (zs : List EntryText). slice_get zs i) (sym same) ∙ slice_get_read ys (length ys) i e refl lt at in
+      sym (ap line_of (front (map entry_of es) more i (omega (arith, n, m, lt)) ∙ slice_get-map entry_of es i ∙ ap (option_map entry_of) there))
 
   -- .. and one that is behind them
-  pub line_later : length es ≤ i → line_among more (i - length es) ≡ line_among (map entry_of es ++ more) i
+  pub line_later : length ys ≤ i → line_among more (i - length es) ≡ line_among (map entry_of es ++ more) i
   line_later le =
       let n = length-map es entry_of in
-      sym (ap line_of (behind (map entry_of es) more i (i - length es) (omega (arith, n, le))))
+      let m = ap length same in
+      sym (ap line_of (behind (map entry_of es) more i (i - length es) (omega (arith, n, m, le))))
+
+module _ (xs : List StrandText) (i : ℕ) (x : StrandText) (left whole : ℕ) (lt : i < length xs) (at : x ≡ get_or xs i x)
+    (before : whole ≡ line_among (entries_of_all (strands_left xs i)) left) where
+  abbrev further : List T.EntryText
+  further = entries_of_all (strands_left xs (i + 1))
+
+  module _ (ys : List EntryText) (same : ys ≡ x.entries.items) where
+    -- an entry of the next strand
+    pub line_found : (e : EntryText) → left < length ys → e ≡ get_or ys left e → e.line ≡ whole
+    line_found e le is =
+        line_here x.entries.items ys same further left e le is ∙ ap (λ (es : List T.EntryText). line_among es left) (sym (next_entries xs i x lt at)) ∙ sym before
+
+    -- .. or one behind it
+    pub line_passed : (n : ℕ) → n ≡ length x.entries.items → length ys ≤ left → whole ≡ line_among further (left - n)
+    line_passed n many le =
+        before ∙ ap (λ (es : List T.EntryText). line_among es left) (next_entries xs i x lt at) ∙ sym (line_later x.entries.items ys same further left le)
+        ∙ ap (λ k. line_among further (left - k)) (sym many)

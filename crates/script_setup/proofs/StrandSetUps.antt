@@ -48,8 +48,8 @@ module _ (p : Module) where
     args : list_any not (have_args p es) ≡ false
 
   -- .. the area is good, and the five exports are there.
-  record IsSetUp (area : Area) (es : List NamedEntry) (funcs : List ℕ) : Type 0 where
-    area : is_area_in (least_pages p) area ≡ true
+  record IsSetUp (a : Area) (es : List NamedEntry) (funcs : List ℕ) : Type 0 where
+    area : is_area_in (least_pages p) a ≡ true
     exports : first_false (map (is_there p) needed) ≡ None
     called : AllCalled es
     funcs_are : all_told (entry_funcs p es) ≡ funcs

@@ -9,7 +9,12 @@ use Rattle.wa_types.specs.Sizes.{value_fits}
 use Rattle.wa_types.specs.Syntax.{Module}
 use Rattle.wa_types.specs.Typing.{GlobalType}
 use Rattle.run_theory.specs.Fitting.{types_of, global_types}
-use Rattle.wa_model.specs.Plan.{EntryFits, Fits, Plan}
+use Rattle.wa_types.specs.Base.{Base}
+use Rattle.wa_types.specs.Pausing.{Settings, TellsMayPause}
+use Rattle.wa_model.specs.declared.answers.Area.{Area}
+use Rattle.wa_model.specs.Plan.{AreLawful, AreaFits, EntryFits, Fits, Plan}
+use Rattle.wa_model.specs.Rewrites.{Rewrites}
+use Rattle.script_model.specs.Script.{EntryText, GlobalText, ProgramText}
 use Rattle.world_model.specs.World.{Actor, Original}
 use Rattle.world_laws.specs.Originals.{MayRun, Orderly, StandsIn, met}
 use Rattle.world_laws.proofs.Stories.{none_ignored}
@@ -18,15 +23,15 @@ use Rattle.run_laws.specs.FittingStates.{EntryTyped}
 use Rattle.host_setup.specs.SetUp.{Fault, NamedEntry, all_told, area_bad, entry_funcs, entry_missing, fault_at, first_fault, is_area_in, least_pages, module_fault, set_up, unless_fault}
 use Rattle.pause_host.specs.Settings.{calls_of}
 use Rattle.pause_host.proofs.Making.{set_up_fine}
-use Rattle.script_setup.specs.SetUpRules.{named_entry}
+use Rattle.script_setup.specs.SetUpRules.{SetUp, named_entry, set_up_rules}
 use Rattle.script_setup.proofs.FirstPlaces.{none_passes}
 use Rattle.script_setup.proofs.GlobalTypes.{given_by_rules}
-use Rattle.script_setup.proofs.WithoutStrands.{funcs_alone}
+use Rattle.script_setup.proofs.WithoutStrands.{funcs_alone, shows_alone}
 use Rattle.script_setup.specs.Bindings.{bound_imports}
 use Rattle.world_hosting.specs.Worlds.{Part, world_program, world_programs}
 use Rattle.world_hosting.specs.OriginalRuns.{IsRewritten, Source, StaysOff, ToldOfOriginals, original_for, originals_for}
 use Rattle.world_hosting.proofs.Entries.{area_fits, entries_fit}
-use Rattle.world_hosting.proofs.Values.{are_typed, globals_fit, kept_by_rules, shows_off}
+use Rattle.world_hosting.proofs.Values.{are_typed, globals_fit, shows_off}
 
 -- ---- no entry is missing
 
@@ -52,37 +57,47 @@ none_missing p area es funcs e =
     let two = rest_none _ _ one in
     none_passes is_none (entry_funcs p es) (no_place entry_missing (position is_none (entry_funcs p es)) (first_none (fault_at entry_missing (position is_none (entry_funcs p es))) _ two))
 
+-- ---- what the rules give, over the original
+
+module _ (m p : Module) (s : Settings) (rw : Rewrites m s p) (which : List Bool) (tells : TellsMayPause m s which) where
+  -- an area and entries that are set up over the rewritten module fit its original
+  pub set_up_fits : (area : Area) (es : List EntryText) (funcs : List ℕ) → set_up p area (map named_entry es) ≡ Ok funcs → All (λ (e : EntryText). All value_fits e.args) es
+      → All (EntryFits m) (calls_of (map named_entry es) funcs) × AreaFits (Base m) area
+  set_up_fits area es funcs e ranges =
+      let named : List NamedEntry = map named_entry es in
+      let fine = set_up_fine p rw.parts.valid_rewritten area named funcs e in
+      let all = entries_fit m p s rw which tells named (none_missing p area named funcs e)
+      (subst (λ (fs : List ℕ). All (EntryTyped p) (calls_of named fs)) fine.funcs_are fine.entries)
+      (All-map (λ (n : NamedEntry). All value_fits n.args) named_entry es ranges) in
+      (subst (λ (fs : List ℕ). All (EntryFits m) (calls_of named fs)) (sym fine.funcs_are) all, area_fits m p s rw which tells area fine.area_fits)
+
+  -- the values of globals are the original's
+  pub values_lawful : (boxes : List (List ℕ)) (t : ProgramText) (up : SetUp) → set_up_rules true boxes p t ≡ Ok up → All (λ (g : GlobalText). value_fits g.value) t.globals
+      → AreLawful (map (λ (g : GlobalType). g.ty) (imported imported_global m)) up.globals
+  values_lawful boxes t up e ranges =
+      let given = given_by_rules true boxes p t up e in
+      let types : types_of up.globals ≡ map (λ (g : GlobalType). g.ty) (imported imported_global m) =
+      given.globals ∙ ap (λ (imports : List Import). global_types (filter_map (λ (i : Import). imported_global i.kind) imports)) rw.parts.imports in
+      record {
+        typed = are_typed (map (λ (g : GlobalType). g.ty) (imported imported_global m)) up.globals types;
+        ranges = subst (All value_fits) (sym given.values) (globals_fit t.globals ranges p.imports);
+      }
+
 -- ---- one program
 
 module _ (x : Source) (y : Part) (is : IsRewritten x y) where
   abbrev o : Original
   o = original_for x y
 
-  abbrev es : List NamedEntry
-  es = map named_entry y.text.entries
-
-  abbrev m : Module
-  m = x.original
-
   -- the plan fits the original
-  fits : Fits m o.program.plan
+  fits : Fits x.original o.program.plan
   fits =
-      let given = given_by_rules true is.boxes y.source y.text y.given is.set_up in
-      let kept = kept_by_rules is.boxes y.source y.text y.given is.alone is.set_up in
       let funcs = funcs_alone y.text is.alone true is.boxes y.source y.given is.set_up in
-      let fine = set_up_fine y.source is.rewrites.parts.valid_rewritten y.text.area es y.given.funcs funcs in
-      let all = entries_fit m y.source x.settings is.rewrites is.which is.tells es (none_missing y.source y.text.area es y.given.funcs funcs)
-      (subst (λ (fs : List ℕ). All (EntryTyped y.source) (calls_of es fs)) fine.funcs_are fine.entries)
-      (All-map (λ (e : NamedEntry). All value_fits e.args) named_entry y.text.entries is.ranges.entries) in
-      let types : types_of y.given.globals ≡ map (λ (g : GlobalType). g.ty) (imported imported_global m) =
-      given.globals ∙ ap (λ (imports : List Import). global_types (filter_map (λ (i : Import). imported_global i.kind) imports)) is.rewrites.parts.imports in
+      let set = set_up_fits x.original y.source x.settings is.rewrites is.which is.tells y.text.area y.text.entries y.given.funcs funcs is.ranges.entries in
       record {
-        globals = record {
-          typed = are_typed (map (λ (g : GlobalType). g.ty) (imported imported_global m)) y.given.globals types;
-          ranges = subst (All value_fits) (sym kept.globals) (globals_fit y.text.globals is.ranges.globals y.source.imports);
-        };
-        entries = subst (λ (fs : List ℕ). All (EntryFits m) (calls_of es fs)) (sym fine.funcs_are) all;
-        area = area_fits m y.source x.settings is.rewrites is.which is.tells y.text.area fine.area_fits;
+        globals = values_lawful x.original y.source x.settings is.rewrites is.which is.tells is.boxes y.text y.given is.set_up is.ranges.globals;
+        entries = set.0;
+        area = set.1;
       }
 
   pub may_run : MayRun o
@@ -91,11 +106,11 @@ module _ (x : Source) (y : Part) (is : IsRewritten x y) where
     fits = fits;
     listed = refl;
     answers = is.ranges.answers;
-    looks = shows_off y.text.area y.text.shows (kept_by_rules is.boxes y.source y.text y.given is.alone is.set_up).shows;
+    looks = shows_off y.text.area y.text.shows (shows_alone y.text is.alone (given_by_rules true is.boxes y.source y.text y.given is.set_up).shows);
   }
 
   abbrev planned : Option (List Bool) → Plan
-  planned listed = record { globals = y.given.globals; entries = calls_of es y.given.funcs; area = y.text.area; others = []; listed = listed }
+  planned listed = record { globals = y.given.globals; entries = calls_of (map named_entry y.text.entries) y.given.funcs; area = y.text.area; others = []; listed = listed }
 
   pub stands_in : StandsIn o (world_program y)
   stands_in = record {

@@ -1,4 +1,4 @@
--- Values of a program's globals and the memory that it shows, by the rules that it keeps.
+-- Values of a program's globals are in range, and the memory that it shows lies off its area.
 use Rattle.std.proofs.Common.{◌≡◌, ℕ, ◌+◌, List, [], ◌∷◌, length, map, nat_lt, Option, Some, None, Bool, true, false}
 use Rattle.std.proofs.Common.{cond, ◌&&◌, refl, sym, ap, ◌∙◌, subst, arith, All, position, Result, Ok, Err, if◌then◌else◌, ltb-false}
 use Rattle.std.specs.List.{cons_option}
@@ -20,23 +20,10 @@ use Rattle.wa_model.specs.declared.answers.Area.{Area}
 use Rattle.run_theory.specs.Fitting.{types_of}
 use Rattle.script_model.specs.Script.{GlobalText, ProgramText, ShowText}
 use Rattle.wa_model.specs.Step.{zero_of}
-use Rattle.script_setup.specs.SetUpRules.{SetUp, global_values, last_value, overlaps, set_up_rules, value_or_zero}
+use Rattle.script_setup.specs.SetUpRules.{global_values, last_value, overlaps, value_or_zero}
 use Rattle.script_setup.proofs.FirstPlaces.{none_passes}
-use Rattle.script_setup.proofs.GlobalTypes.{given_by_rules}
-use Rattle.script_setup.proofs.WithoutStrands.{shows_alone}
 use Rattle.world_laws.specs.Originals.{ShowsOff}
 use Rattle.world_hosting.specs.Worlds.{look_at}
-
--- ---- what the rules tell
-
-pub record Kept (p : Module) (t : ProgramText) (s : SetUp) : Type 0 where
-  pub globals : s.globals ≡ global_values p.imports t.globals
-  pub shows : position (overlaps t.area) t.shows ≡ None
-
-pub kept_by_rules : (boxes : List (List ℕ)) (p : Module) (t : ProgramText) (s : SetUp) → t.strands ≡ [] → set_up_rules true boxes p t ≡ Ok s → Kept p t s
-kept_by_rules boxes p t s alone e =
-    let given = given_by_rules true boxes p t s e in
-    record { globals = given.values; shows = shows_alone t alone given.shows }
 
 -- ---- values in range
 
@@ -87,7 +74,8 @@ are_typed (t ∷ ts) (v ∷ vs) e =
 
 -- ---- what is shown
 
-off : (a b c d : Bool) → (c && d) ≡ false → (a && b && c && d) ≡ false
+-- ranges that overlap in neither direction share no byte
+pub off : (a b c d : Bool) → (c && d) ≡ false → (a && b && c && d) ≡ false
 off true true c d h = h
 off true false c d h = refl
 off false b c d h = refl
