@@ -10,7 +10,7 @@ use Rattle.script_command.specs.Playing as P
 use Rattle.script_command.specs.Playing.{bad_line, bad_module, bad_script, refusal_of_cause}
 use Rattle.script_command.proofs.Statuses.{module_content, script_content}
 use Rattle.script_command.specs.PlainScripts as K
-use Rattle.script_command.specs.PlainScripts.{IsUnplayed, has_sharing, not_run, refusal_for}
+use Rattle.script_command.specs.PlainScripts.{IsUnplayed, has_unsaved, not_run, refusal_for}
 
 content_small : (r : Refusal) → IsOfContent r → status_of r ≤ 8
 content_small (malformed at) h = omega arith
@@ -35,7 +35,7 @@ refused_small way files name (bad_line line rule) h = omega arith
 
 -- so is one that isn't saved or gone on with
 pub unplayed_small : (files : Option Files) (name : List ℕ) (cause : K.Cause) → IsUnplayed files name cause → status_of (refusal_for cause) ≤ 8
-unplayed_small files name (has_sharing line) h = omega arith
+unplayed_small files name (has_unsaved line) h = omega arith
 unplayed_small files name (not_run (bad_script r)) h = refused_small Run files name (bad_script r) h
 unplayed_small files name (not_run (bad_module number r)) h = refused_small Run files name (bad_module number r) h.0
 unplayed_small files name (not_run (bad_line line rule)) h = refused_small Run files name (bad_line line rule) h.0

@@ -8,7 +8,7 @@ use Rattle.vault_port.specs.declared.whole.PutFault.{PutFault}
 use Rattle.vault_port.specs.declared.whole.PutFault.TheVariants.{Fault, Memory}
 use Rattle.wa_model.specs.declared.answers.Detach.{Detach}
 use Rattle.vault_port.specs.Taken.{Appends, AppendsPast}
-use Rattle.script_model.specs.Script.{MailboxText}
+use Rattle.script_model.specs.Script.{MailboxText, strand_line}
 use Rattle.script_model.specs.Transcript.{Refusal, refusal_line, read_fault}
 use Rattle.transcript.specs.Printing.{refusal_of}
 use Rattle.event_order.specs.Left.{Counted}
@@ -25,7 +25,8 @@ use Rattle.script_command.specs.SnapshotCalls.{output}
 use Rattle.script_command.specs.SnapshotViews as T
 use Rattle.script_command.specs.SnapshotViews.{TellsLine}
 use Rattle.script_command.specs.Views.{Blames}
-use Rattle.script_command.specs.MailTold.{ByMail, IsBegun, IsTold, boxes_of}
+use Rattle.script_command.specs.MailTold.{boxes_of}
+use Rattle.script_command.specs.Told.{ByMail, ByStrands, IsBegun, IsTold}
 use Rattle.world_hosting.proofs.DeviceLogs.{devices_logged}
 use Rattle.script_command.proofs.MailToldOf.{mail_told_of}
 use Rattle.script_command.proofs.OfOriginals.{of_originals}
@@ -104,45 +105,52 @@ by_some : (ms : List MailboxText) (without with : Type 0) → (ms ≡ [] → ⊥
 by_some [] without with some h = absurd (some refl)
 by_some (m ∷ ms) without with some h = h
 
+-- and by the strands
+alone : (o : Option ℕ) (without with : Type 0) → o ≡ None → without → ByStrands o without with
+alone o without with e h = subst (λ (l : Option ℕ). ByStrands l without with) (sym e) h
+
+pub by_strands : (o : Option ℕ) (line : ℕ) (without with : Type 0) → o ≡ Some line → with → ByStrands o without with
+by_strands o line without with e h = subst (λ (l : Option ℕ). ByStrands l without with) (sym e) h
+
 module _ (way : Way) (name : List ℕ) (files : Option Files) (fetched fetched' put put' : ℕ) (ds ds' : List Counted) (play : Play way files name) where
   -- the end of a call that was told so
   abbrev pub Told : (status : ℕ) → (old new : Option (List ℕ)) → Type 0
   Told status old new = HasEnd (call way name files fetched fetched' put put' old new ds ds') status
 
-  all_told : (text : List ℕ) → IsTold play ds ds' text → (old new : Option (List ℕ)) → Becomes old new (Appends text) → Told 0 old new
+  pub all_told : (text : List ℕ) → IsTold play ds ds' text → (old new : Option (List ℕ)) → Becomes old new (Appends text) → Told 0 old new
   all_told text told old new h = record { which = done; by_status = refl; why = (play, text, told, h) }
 
   -- the sink failed
-  cut : (least : ℕ) (text : List ℕ) → IsBegun Fault play ds ds' least text → FailsOnce put put' → (old new : Option (List ℕ)) → Becomes old new (AppendsPast least text) → Told 12 old new
+  pub cut : (least : ℕ) (text : List ℕ) → IsBegun Fault play ds ds' least text → FailsOnce put put' → (old new : Option (List ℕ)) → Becomes old new (AppendsPast least text) → Told 12 old new
   cut least text begun failed old new h = record { which = sink_fault; by_status = refl; why = (play, failed, least, text, begun, h) }
 
   -- memory is wanting behind what was told
-  wanting : (least : ℕ) (text : List ℕ) → IsBegun Memory play ds ds' least text → (old mid new : Option (List ℕ)) (status q : ℕ) → status ≡ 9 → q ≡ put
+  pub wanting : (least : ℕ) (text : List ℕ) → IsBegun Memory play ds ds' least text → (old mid new : Option (List ℕ)) (status q : ℕ) → status ≡ 9 → q ≡ put
       → Becomes old mid (PrintsPart Memory least text) → Becomes mid new (EndsInMemory q put') → Told status old new
   wanting least text begun old mid new status q nine still part h =
       out_of_memory_behind (call way name files fetched fetched' put put' old new ds ds') status nine least text (inl (play, begun))
       (Becomes_then (PrintsPart Memory least text) (EndsInMemory q put') (PrintsMemoryPast least text put put') (λ x y z p k. (p.0, k.0, subst (λ (n : ℕ). FailsLast k.0 n put') still k.1, p.1, k.2 ∙ ap (λ s. s ++ take k.0 memory_line) p.2)) old mid new part h)
 
-  module _ (detaches : List Detach) (same : detaches_in play.whole ≡ detaches) where
+  module _ (detaches : List Detach) (same : detaches_in play.whole ≡ detaches) (unstranded : strand_line play.whole ≡ None) where
     -- ---- without mailboxes
 
     module _ (none : play.whole.mailboxes ≡ []) where
       told_so : (text : List ℕ) → AreTold play.parts detaches ds ds' text → IsTold play ds ds' text
       told_so text h =
           let told = subst (λ (l : List Detach). AreTold play.parts l ds ds' text) (sym same) h in
-          by_none play.whole.mailboxes _ _ none (record {
+          alone (strand_line play.whole) _ _ unstranded (by_none play.whole.mailboxes _ _ none (record {
             told = told;
-            originals = of_originals way files name play ds ds' text told;
+            originals = of_originals way files name play unstranded ds ds' text told;
             logs = devices_logged play.parts (detaches_in play.whole) ds ds' text told;
             faults = played_faults way files name play ds ds' text told;
-          })
+          }))
 
       begun_so : (fault : PutFault) (least : ℕ) (text : List ℕ) → AreBegun fault play.parts detaches ds ds' least text ⊎ AreEnded play.parts detaches ds ds' least text
           → IsBegun fault play ds ds' least text
-      begun_so fault least text h = by_none play.whole.mailboxes _ _ none (elim h [
+      begun_so fault least text h = alone (strand_line play.whole) _ _ unstranded (by_none play.whole.mailboxes _ _ none (elim h [
         | inl begun ↦ inl (subst (λ (l : List Detach). AreBegun fault play.parts l ds ds' least text) (sym same) begun)
         | inr ended ↦ inr (subst (λ (l : List Detach). AreEnded play.parts l ds ds' least text) (sym same) ended)
-      ])
+      ]))
 
       pub programs_told : (old new : Option (List ℕ)) → Tells play.parts detaches ds ds' old new → Told 0 old new
       programs_told old new h = all_told h.0 (told_so h.0 h.1) old new h.2
@@ -159,16 +167,17 @@ module _ (way : Way) (name : List ℕ) (files : Option Files) (fetched fetched' 
     module _ (some : play.whole.mailboxes ≡ [] → ⊥) (boxes : List (List ℕ)) (named : boxes_of play ≡ boxes) where
       mail_told_so : (text : List ℕ) → AreMailTold play.parts detaches boxes ds ds' text → IsTold play ds ds' text
       mail_told_so text h =
-          by_some play.whole.mailboxes _ _ some
-          (mail_told_of way files name play ds ds' text
-          (subst (λ (l : List Detach). AreMailTold play.parts l (boxes_of play) ds ds' text) (sym same) (subst (λ (b : List (List ℕ)). AreMailTold play.parts detaches b ds ds' text) (sym named) h)))
+          alone (strand_line play.whole) _ _ unstranded
+          (by_some play.whole.mailboxes _ _ some
+          (mail_told_of way files name play unstranded ds ds' text
+          (subst (λ (l : List Detach). AreMailTold play.parts l (boxes_of play) ds ds' text) (sym same) (subst (λ (b : List (List ℕ)). AreMailTold play.parts detaches b ds ds' text) (sym named) h))))
 
       mail_begun_so : (fault : PutFault) (least : ℕ) (text : List ℕ) → AreMailBegun fault play.parts detaches boxes ds ds' least text ⊎ AreMailEnded play.parts detaches boxes ds ds' least text
           → IsBegun fault play ds ds' least text
-      mail_begun_so fault least text h = by_some play.whole.mailboxes _ _ some (elim h [
+      mail_begun_so fault least text h = alone (strand_line play.whole) _ _ unstranded (by_some play.whole.mailboxes _ _ some (elim h [
         | inl begun ↦ inl (subst (λ (l : List Detach). AreMailBegun fault play.parts l (boxes_of play) ds ds' least text) (sym same) (subst (λ (b : List (List ℕ)). AreMailBegun fault play.parts detaches b ds ds' least text) (sym named) begun))
         | inr ended ↦ inr (subst (λ (l : List Detach). AreMailEnded play.parts l (boxes_of play) ds ds' least text) (sym same) (subst (λ (b : List (List ℕ)). AreMailEnded play.parts detaches b ds ds' least text) (sym named) ended))
-      ])
+      ]))
 
       pub mail_told : (old new : Option (List ℕ)) → TellsMail play.parts detaches boxes ds ds' old new → Told 0 old new
       mail_told old new h = all_told h.0 (mail_told_so h.0 h.1) old new h.2

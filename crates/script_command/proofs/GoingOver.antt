@@ -17,6 +17,7 @@ use Rattle.world_hosting.proofs.Originals.{may_run}
 use Rattle.script_command.specs.Playing.{IsStage}
 use Rattle.script_command.specs.RunOriginals.{IsSource}
 use Rattle.script_command.specs.declared.way.Way.TheVariants.{Run}
+use Rattle.script_command.proofs.NoStrands.{HasNoStrand}
 use Rattle.script_command.proofs.OneOriginal.{OfOneSource, one_source}
 use Rattle.script_command.proofs.Runs.{SameImports}
 
@@ -46,19 +47,21 @@ texts_of xs = map (λ (x : Part). x.text) xs
 abbrev pub HasAlike : Files → Files → ProgramText → Type 0
 HasAlike files files' t = files' t.path ≡ files t.path
 
-pub go_over : (files files' : Files) (boxes : List (List ℕ)) (xs ys : List Part) → texts_of ys ≡ texts_of xs → All (HasAlike files files') (texts_of xs) → All HasRanges (texts_of xs) → All (IsStage Run boxes (Some files)) xs
+pub go_over : (files files' : Files) (boxes : List (List ℕ)) (xs ys : List Part) → texts_of ys ≡ texts_of xs → All (HasAlike files files') (texts_of xs) → All HasRanges (texts_of xs) → All HasNoStrand (texts_of xs) → All (IsStage Run boxes (Some files)) xs
     → All (IsStage Run boxes (Some files')) ys → GoOver files xs ys
-go_over files files' boxes [] [] same there ranges st st' = record { sources = []; are_sources = tt; rewritten = tt; over = tt; names = tt }
-go_over files files' boxes [] (y ∷ ys) same there ranges st st' = cc
-go_over files files' boxes (x ∷ xs) [] same there ranges st st' = cc
-go_over files files' boxes (x ∷ xs) (y ∷ ys) same there ranges st st' =
+go_over files files' boxes [] [] same there ranges none st st' = record { sources = []; are_sources = tt; rewritten = tt; over = tt; names = tt }
+go_over files files' boxes [] (y ∷ ys) same there ranges none st st' = cc
+go_over files files' boxes (x ∷ xs) [] same there ranges none st st' = cc
+go_over files files' boxes (x ∷ xs) (y ∷ ys) same there ranges none st st' =
     let head : y.text ≡ x.text = cc in
     let tail : texts_of ys ≡ texts_of xs = cc in
     let one =
     one_source files files' boxes x y head (All-head (HasAlike files files') x.text (texts_of xs) there) (All-head HasRanges x.text (texts_of xs) ranges)
+    (All-head HasNoStrand x.text (texts_of xs) none)
     (All-head (IsStage Run boxes (Some files)) x xs st) (All-head (IsStage Run boxes (Some files')) y ys st') in
     let rest =
-    go_over files files' boxes xs ys tail (All-tail (HasAlike files files') x.text (texts_of xs) there) (All-tail HasRanges x.text (texts_of xs) ranges) (All-tail (IsStage Run boxes (Some files)) x xs st)
+    go_over files files' boxes xs ys tail (All-tail (HasAlike files files') x.text (texts_of xs) there) (All-tail HasRanges x.text (texts_of xs) ranges)
+    (All-tail HasNoStrand x.text (texts_of xs) none) (All-tail (IsStage Run boxes (Some files)) x xs st)
     (All-tail (IsStage Run boxes (Some files')) y ys st') in
     record {
       sources = one.of ∷ rest.sources;

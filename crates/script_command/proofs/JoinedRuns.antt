@@ -24,7 +24,8 @@ use Rattle.script_command.specs.Playing.{HasScript, IsStage, Play, boxes_in, det
 use Rattle.script_command.specs.RunOriginals.{IsSource, original_names}
 use Rattle.script_command.specs.declared.way.Way.TheVariants.{Run}
 use Rattle.script_command.proofs.OneOriginal.{some_bytes}
-use Rattle.script_command.proofs.Runs.{as_many, in_range, same_imports, same_names}
+use Rattle.script_command.proofs.NoStrands.{unsaved_strands}
+use Rattle.script_command.proofs.Runs.{as_many, have_no_strand, in_range, same_imports, same_names}
 use Rattle.script_command.proofs.WholeScripts.{one_script}
 use Rattle.script_command.specs.SnapshotCalls.{Call}
 use Rattle.script_command.specs.JoinedRuns.{GoesOnWith, IsOneRun, JoinedRunsAreOfOriginals, StayOff}
@@ -71,6 +72,7 @@ module _ (most : ℕ) (c c' : Call) (text text' : List ℕ) (h : GoesOnWith most
   are : GoOver h.files xs ys
   are =
       go_over h.files h.files' (boxes_in play.whole) xs ys texts (subst (All (HasAlike h.files h.files')) (sym play.stages.texts_are) h.alike.modules) (in_range c.files c.script play)
+      (have_no_strand Run c.files c.script play (unsaved_strands play.whole h.saved.1.play.none))
       (subst (λ (f : Option Files). All (IsStage Run (boxes_in play.whole) f) xs) h.first play.stages.each)
       (subst (λ (s : Script). All (IsStage Run (boxes_in s) (Some h.files')) ys) one (subst (λ (f : Option Files). All (IsStage Run (boxes_in play'.whole) f) ys) h.second play'.stages.each))
 

@@ -8,6 +8,7 @@ mod Hosted
 pub mod JoinedRuns
 pub mod JoinedTexts
 mod MailToldOf
+pub mod NoStrands
 pub mod OfOriginals
 pub mod OneOriginal
 pub mod OneRead
@@ -15,11 +16,13 @@ pub mod Openings
 pub mod Originals
 pub mod OtherDevices
 pub mod PlainOpenings
+pub mod PlannedParts
 pub mod Played
 pub mod PlayedTurns
 pub mod Prepared
 pub mod ProgramModules
 pub mod PutBack
+pub mod PutNames
 pub mod Runs
 pub mod SamePrograms
 pub mod SameSetUp
@@ -31,7 +34,12 @@ pub mod SnapshotFiles
 pub mod SnapshotStatuses
 pub mod Sources
 pub mod StagedParts
+pub mod StagedStrandParts
 pub mod Statuses
 pub mod Steps
+pub mod StrandAreas
+pub mod StrandEnding
+pub mod StrandLogs
+pub mod StrandToldOf
 pub mod Unbinding
 pub mod WholeScripts

@@ -18,6 +18,7 @@ use Rattle.world_hosting.proofs.Originals.{stands_in}
 use Rattle.script_command.specs.Playing.{IsStage, policy_for}
 use Rattle.script_command.specs.RunOriginals.{IsSource}
 use Rattle.script_command.specs.declared.way.Way.TheVariants.{Run}
+use Rattle.script_command.proofs.NoStrands.{HasNoStrand}
 use Rattle.script_command.proofs.ProgramModules.{one_settings}
 use Rattle.script_command.proofs.Runs.{SameImports, heeds}
 use Rattle.script_command.proofs.SameSetUp.{same_rules}
@@ -38,7 +39,7 @@ pub record OfOneSource (files : Files) (x y : Part) : Type 0 where
   pub second : StandsIn (original_for of x) (world_program y)
   pub names : SameImports of y
 
-module _ (files files' : Files) (boxes : List (List ℕ)) (t : ProgramText) (there : files' t.path ≡ files t.path) (ranges : HasRanges t) where
+module _ (files files' : Files) (boxes : List (List ℕ)) (t : ProgramText) (there : files' t.path ≡ files t.path) (ranges : HasRanges t) (none : HasNoStrand t) where
   -- two programs of this text
   module _ (p q : Module) (listed listed' : Option (List Bool)) (given given' : SetUp) (is : IsStage Run boxes (Some files) (part p listed t given))
       (is' : IsStage Run boxes (Some files') (part q listed' t given')) where
@@ -92,6 +93,7 @@ module _ (files files' : Files) (boxes : List (List ℕ)) (t : ProgramText) (the
       ranges = ranges;
       boxes = boxes;
       set_up = set_up;
+      alone = none;
     }
 
     first : IsRewritten of x
@@ -117,10 +119,10 @@ module _ (files files' : Files) (boxes : List (List ℕ)) (t : ProgramText) (the
     }
 
 -- So do programs whose texts are one.
-pub one_source : (files files' : Files) (boxes : List (List ℕ)) (x y : Part) → y.text ≡ x.text → files' x.text.path ≡ files x.text.path → HasRanges x.text → IsStage Run boxes (Some files) x → IsStage Run boxes (Some files') y
+pub one_source : (files files' : Files) (boxes : List (List ℕ)) (x y : Part) → y.text ≡ x.text → files' x.text.path ≡ files x.text.path → HasRanges x.text → HasNoStrand x.text → IsStage Run boxes (Some files) x → IsStage Run boxes (Some files') y
     → OfOneSource files x y
-one_source files files' boxes x y same there ranges is is' =
+one_source files files' boxes x y same there ranges none is is' =
     let z : Part = part y.source y.listed x.text y.given in
     let made : y ≡ z = ap (λ (t : ProgramText). part y.source y.listed t y.given) same in
     subst (OfOneSource files x) (sym made)
-    (of_one_source files files' boxes x.text there ranges x.source y.source x.listed y.listed x.given y.given is (subst (IsStage Run boxes (Some files')) made is'))
+    (of_one_source files files' boxes x.text there ranges none x.source y.source x.listed y.listed x.given y.given is (subst (IsStage Run boxes (Some files')) made is'))

@@ -18,11 +18,11 @@ use Rattle.script_reader.specs.Views.{program_of}
 use Rattle.wa_types.specs.Syntax.{Module}
 use Rattle.host_setup.specs.Views.{entry_of as named_entry_of}
 use Rattle.script_setup.specs.declared.setting.SetUp.{SetUp as SetUpValue}
-use Rattle.script_setup.specs.SetUpRules.{SetUp, named_entry, set_up_rules}
+use Rattle.script_setup.specs.SetUpRules.{SetUp, entries_in, named_entry, set_up_rules}
 use Rattle.script_setup.specs.Views.{set_up_of}
 use Rattle.world_hosting.specs.Worlds.{FitsPlan, IsListing, Part}
 use Rattle.world_hosting.specs.Views.{listing}
-use Rattle.world_hosting.proofs.Starts.{suits_by_rules}
+use Rattle.script_setup.proofs.GlobalTypes.{given_by_rules}
 use Rattle.script_command.specs.declared.modules.Loaded.{Loaded}
 use Rattle.script_command.specs.declared.way.Way.{Way}
 use Rattle.script_command.specs.declared.programs.Planned.{Planned}
@@ -31,7 +31,7 @@ use Rattle.script_command.specs.declared.stop.Stop.{Stop}
 use Rattle.script_command.specs.declared.stop.Stop.TheVariants.{Memory, Refused, Sink}
 use Rattle.script_command.specs.Playing.{IsBadModule, IsModule, IsReached, IsStage, BreaksRule, asks_all, bad_line, bad_module}
 use Rattle.script_command.specs.SnapshotViews.{refused_module}
-use Rattle.script_command.specs.Views.{AreOpened, BlamesLine, BlamesNext, CanStage, IsUnread, OpensNext, StopsFor, part_of, parts_of}
+use Rattle.script_command.specs.Views.{AreOpened, BlamesLine, BlamesNext, CanOpen, IsUnread, OpensNext, StopsFor, SuitsStrands, part_of, parts_of}
 
 -- ---- lists in step
 
@@ -41,7 +41,7 @@ zip_more R [] (b ∷ ys) x y h r = absurd h
 zip_more R (a ∷ xs) [] x y h r = absurd h
 zip_more R (a ∷ xs) (b ∷ ys) x y h r = (h.0, zip_more R xs ys x y h.1 r)
 
-parts_more : (vs : List ModuleValue) (ps : List Planned) (v : ModuleValue) (p : Planned) → AllZip CanStage vs ps → parts_of (vs ++ v ∷ []) (ps ++ p ∷ []) ≡ parts_of vs ps ++ part_of v p ∷ []
+parts_more : (vs : List ModuleValue) (ps : List Planned) (v : ModuleValue) (p : Planned) → AllZip CanOpen vs ps → parts_of (vs ++ v ∷ []) (ps ++ p ∷ []) ≡ parts_of vs ps ++ part_of v p ∷ []
 parts_more [] [] v p h = refl
 parts_more [] (q ∷ ps) v p h = absurd h
 parts_more (w ∷ vs) [] v p h = absurd h
@@ -50,7 +50,7 @@ parts_more (w ∷ vs) (q ∷ ps) v p h = ap (λ (xs : List Part). part_of w q �
 abbrev pub text_in : Planned → ProgramText
 text_in p = program_of p.text
 
-pub texts_of_parts : (vs : List ModuleValue) (ps : List Planned) → AllZip CanStage vs ps → map (λ (x : Part). x.text) (parts_of vs ps) ≡ map text_in ps
+pub texts_of_parts : (vs : List ModuleValue) (ps : List Planned) → AllZip CanOpen vs ps → map (λ (x : Part). x.text) (parts_of vs ps) ≡ map text_in ps
 texts_of_parts [] [] h = refl
 texts_of_parts [] (q ∷ ps) h = absurd h
 texts_of_parts (w ∷ vs) [] h = absurd h
@@ -66,14 +66,14 @@ none_left (x ∷ xs) e = absurd (omega (arith, e))
 pub record SoFar (way : Way) (boxes : List (List ℕ)) (files : Option Files) (ps : Programs) (rest texts : List ProgramText) : Type 0 where
   pub texts_are : map text_in ps.planned.items ++ rest ≡ texts
   pub stages : All (IsStage way boxes files) (parts_of ps.modules.items ps.planned.items)
-  pub each : AllZip CanStage ps.modules.items ps.planned.items
+  pub each : AllZip CanOpen ps.modules.items ps.planned.items
 
 module _ (way : Way) (boxes : List (List ℕ)) (files : Option Files) where
   pub none_so_far : (texts : List ProgramText) (ps : Programs) → ps.modules.items ≡ [] → ps.planned.items ≡ [] → SoFar way boxes files ps texts texts
   none_so_far texts ps m p = record {
     texts_are = ap (λ (xs : List Planned). map text_in xs ++ texts) p;
     stages = subst (λ (xs : List ModuleValue). All (IsStage way boxes files) (parts_of xs ps.planned.items)) (sym m) (All-nil (IsStage way boxes files));
-    each = subst (λ (xs : List ModuleValue). AllZip CanStage xs ps.planned.items) (sym m) (subst (λ (xs : List Planned). AllZip CanStage [] xs) (sym p) tt);
+    each = subst (λ (xs : List ModuleValue). AllZip CanOpen xs ps.planned.items) (sym m) (subst (λ (xs : List Planned). AllZip CanOpen [] xs) (sym p) tt);
   }
 
   pub one_more : (old new : Programs) (t : ProgramText) (rest texts : List ProgramText) → SoFar way boxes files old (t ∷ rest) texts → OpensNext way boxes files t old new → SoFar way boxes files new rest texts
@@ -88,8 +88,8 @@ module _ (way : Way) (boxes : List (List ℕ)) (files : Option Files) where
             (subst (All (IsStage way boxes files)) (sym (parts_more ms ps o.valid o.planned s.each))
             (All-append (IsStage way boxes files) (parts_of ms ps) (part_of o.valid o.planned ∷ []) s.stages
             (All-cons (IsStage way boxes files) (part_of o.valid o.planned) [] o.stage (All-nil (IsStage way boxes files))))));
-        each = subst (λ (xs : List ModuleValue). AllZip CanStage xs new.planned.items) (sym o.modules_are)
-            (subst (λ (xs : List Planned). AllZip CanStage (ms ++ o.valid ∷ []) xs) (sym o.planned_are) (zip_more CanStage ms ps o.valid o.planned s.each o.can));
+        each = subst (λ (xs : List ModuleValue). AllZip CanOpen xs new.planned.items) (sym o.modules_are)
+            (subst (λ (xs : List Planned). AllZip CanOpen (ms ++ o.valid ∷ []) xs) (sym o.planned_are) (zip_more CanOpen ms ps o.valid o.planned s.each o.can));
       }
 
   -- the texts to come, as they are held
@@ -182,9 +182,16 @@ on_both : {A B C : Type 0} (r : Result (Unit {0}) Stop) → OnOk r A → OnOk r 
 on_both (Ok x) a b f = f a b
 on_both (Err e) a b f = tt
 
+-- what is made by the rules suits all strands
+suits_strands : (runs : Bool) (boxes : List (List ℕ)) (p : Module) (t : ProgramText) (made : SetUpValue) → set_up_rules runs boxes p t ≡ Ok (set_up_of made)
+    → map named_entry_of made.entries.items ≡ map named_entry (entries_in t) → SuitsStrands p t made
+suits_strands runs boxes p t made e entries =
+    let given = given_by_rules runs boxes p t (set_up_of made) e in
+    record { entries = entries; funcs = given.funcs; apart = given.apart; globals = given.globals }
+
 pub plans_next : (way : Way) (boxes : List (List ℕ)) (files : Option Files) (l : Loaded) (text : ProgramValue) (given : SetUpValue) (asked : Bool) → asked ≡ asks_all way → FitsPlan (program_of text)
     → IsListing (module_of l.valid) (listing l.listed) → IsModule way files (program_of text) (module_of l.valid) (listing l.listed)
-    → set_up_rules asked boxes (module_of l.valid) (program_of text) ≡ Ok (set_up_of given) → map named_entry_of given.entries.items ≡ map named_entry (program_of text).entries
+    → set_up_rules asked boxes (module_of l.valid) (program_of text) ≡ Ok (set_up_of given) → map named_entry_of given.entries.items ≡ map named_entry (entries_in (program_of text))
     → (old new : Programs) (r : Result (Unit {0}) Stop) → OnOk r (new.modules.items ≡ old.modules.items ++ l.valid ∷ [])
     → OnOk r (new.planned.items ≡ old.planned.items ++ record { listed = l.listed; text = text; given = given } ∷ []) → OnOk r (OpensNext way boxes files (program_of text) old new)
 plans_next way boxes files l text given asked asks fits told is made entries old new r ms ps =
@@ -196,7 +203,7 @@ plans_next way boxes files l text given asked asks fits told is made entries old
       planned_are = p;
       text_is = refl;
       stage = record { module_is = is; set_up = rules_asked asked (asks_all way) boxes (module_of l.valid) (program_of text) (Ok (set_up_of given)) asks made };
-      can = record { fits = fits; listing = told; suits = suits_by_rules asked boxes (module_of l.valid) (program_of text) given made entries };
+      can = record { fits = fits; listing = told; suits = suits_strands asked boxes (module_of l.valid) (program_of text) given made entries };
     })
 
 pub memory_blamed : (told : Result SetUp ScriptFault) (r : Result (Unit {0}) Stop) → IfErr r (λ stop. stop ≡ Memory) → IfErr r (λ stop. BlamesLine told stop)

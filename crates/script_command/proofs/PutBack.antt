@@ -87,8 +87,8 @@ parts_suit (x ∷ xs) (r ∷ rs) h = (h.0, parts_suit xs rs h.1)
 -- ---- one program more
 
 module _ (modules : List Module) (planned : List Planned) (p : Planned) (rest : List Planned) (records : List ProgramRecord) (resumed : List Resumed) where
-  pub next : Resuming modules planned (p ∷ rest) records resumed → NextProgram modules (length resumed) p
-  next s = next_at modules (length resumed) p rest s.left s.left_is s.each
+  pub next : Resuming modules planned (p ∷ rest) records resumed → NextProgram CanStage modules (length resumed) p
+  next s = next_at CanStage modules (length resumed) p rest s.left s.left_is s.each
 
   pub here_can : Resuming modules planned (p ∷ rest) records resumed → (v : Module) → v ≡ get_or modules (length resumed) v → CanStage v p
   here_can s v e = (next s).can v e

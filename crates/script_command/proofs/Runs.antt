@@ -10,16 +10,18 @@ use Rattle.wa_types.specs.Pausing.{Choice, Policy, joined_name, Settings}
 use Rattle.script_model.specs.Command.{choice_said}
 use Rattle.wa_model.specs.Outside.{Line}
 use Rattle.world_model.specs.World.{name_if}
-use Rattle.script_model.specs.Script.{EntryText, ProgramText}
+use Rattle.script_model.specs.Script.{EntryText, ProgramText, strand_line}
 use Rattle.script_model.specs.Transcript.{Names, Transcript}
 use Rattle.script_setup.specs.SetUpRules.{program_names}
 use Rattle.script_command.specs.Playing.{IsStage, Play, boxes_in, policy_for}
+use Rattle.script_command.specs.declared.way.Way.{Way}
 use Rattle.script_command.specs.declared.way.Way.TheVariants.{Run}
 use Rattle.world_hosting.specs.Worlds.{HasRanges, Part, part_names, turn_count}
 use Rattle.world_hosting.proofs.ScriptPrograms.{scripts_are_in_range}
 use Rattle.world_hosting.specs.OriginalRuns.{IsRewritten, Source}
 use Rattle.world_hosting.proofs.Originals.{told_of_originals}
 use Rattle.script_command.specs.RunOriginals.{IsSource, RunsAreOfOriginals, original_names}
+use Rattle.script_command.proofs.NoStrands.{HasNoStrand, no_strands}
 
 -- ---- the script
 
@@ -30,6 +32,9 @@ pub in_range : (files : Option Files) (name : List ℕ) (play : Play Run files n
 in_range files name play =
     let h = play.of_script in
     subst (All HasRanges) (sym play.stages.texts_are) (scripts_are_in_range h.bytes play.whole h.script.text)
+
+pub have_no_strand : (way : Way) (files : Option Files) (name : List ℕ) (play : Play way files name) → strand_line play.whole ≡ None → All HasNoStrand (texts_of play.parts)
+have_no_strand way files name play none = subst (All HasNoStrand) (sym play.stages.texts_are) (no_strands play.whole none)
 
 -- ---- one program
 
@@ -46,8 +51,8 @@ pub record HasSource (files : Option Files) (y : Part) : Type 0 where
   pub is_source : IsSource files of y
   pub rewritten : IsRewritten of y
 
-source_of : (files : Option Files) (boxes : List (List ℕ)) (y : Part) → IsStage Run boxes files y → HasRanges y.text → HasSource files y
-source_of files boxes y stage ranges =
+source_of : (files : Option Files) (boxes : List (List ℕ)) (y : Part) → IsStage Run boxes files y → HasRanges y.text → HasNoStrand y.text → HasSource files y
+source_of files boxes y stage ranges none =
     let settings = stage.module_is.3.0 in
     let runs = stage.module_is.3.2 in
     record {
@@ -63,6 +68,7 @@ source_of files boxes y stage ranges =
         ranges = ranges;
         boxes = boxes;
         set_up = stage.set_up;
+        alone = none;
       };
     }
 
@@ -73,18 +79,24 @@ pub record HaveSources (files : Option Files) (ys : List Part) : Type 0 where
   pub are_sources : AllZip (IsSource files) sources ys
   pub rewritten : AllZip IsRewritten sources ys
 
-pub sources_of : (files : Option Files) (boxes : List (List ℕ)) (ys : List Part) → All (IsStage Run boxes files) ys → All HasRanges (texts_of ys) → HaveSources files ys
-sources_of files boxes [] stages ranges = record { sources = []; are_sources = tt; rewritten = tt }
-sources_of files boxes (y ∷ ys) stages ranges =
-    let first = source_of files boxes y (All-head (IsStage Run boxes files) y ys stages) (All-head HasRanges y.text (texts_of ys) ranges) in
-    let rest = sources_of files boxes ys (All-tail (IsStage Run boxes files) y ys stages) (All-tail HasRanges y.text (texts_of ys) ranges) in
+pub sources_of : (files : Option Files) (boxes : List (List ℕ)) (ys : List Part) → All (IsStage Run boxes files) ys → All HasRanges (texts_of ys) → All HasNoStrand (texts_of ys)
+    → HaveSources files ys
+sources_of files boxes [] stages ranges none = record { sources = []; are_sources = tt; rewritten = tt }
+sources_of files boxes (y ∷ ys) stages ranges none =
+    let first = source_of files boxes y (All-head (IsStage Run boxes files) y ys stages) (All-head HasRanges y.text (texts_of ys) ranges)
+    (All-head HasNoStrand y.text (texts_of ys) none) in
+    let rest = sources_of files boxes ys (All-tail (IsStage Run boxes files) y ys stages) (All-tail HasRanges y.text (texts_of ys) ranges)
+    (All-tail HasNoStrand y.text (texts_of ys) none) in
     record { sources = first.of ∷ rest.sources; are_sources = (first.is_source, rest.are_sources); rewritten = (first.rewritten, rest.rewritten) }
 
 -- ---- names
 
-abbrev names_over : ProgramText → List Import → Names
+abbrev pub imports_over : List Import → List (List ℕ)
+imports_over is = filter_map (λ (i : Import). name_if (joined_name i) (imported_func i.kind)) is
+
+abbrev pub names_over : ProgramText → List Import → Names
 names_over t is = record {
-  imports = filter_map (λ (i : Import). name_if (joined_name i) (imported_func i.kind)) is;
+  imports = imports_over is;
   entries = map (λ (e : EntryText). e.name) t.entries;
   len = t.area.len;
 }
@@ -126,8 +138,8 @@ pub text_of_originals : (xs : List Source) (ys : List Part) (text : List ℕ) (l
 text_of_originals xs ys text lines same is = text_by_originals xs ys text (turn_count lines) lines same is
 
 pub runs_of_originals : RunsAreOfOriginals
-runs_of_originals files name play =
-    let have = sources_of files (boxes_in play.whole) play.parts play.stages.each (in_range files name play) in (
+runs_of_originals files name play none =
+    let have = sources_of files (boxes_in play.whole) play.parts play.stages.each (in_range files name play) (have_no_strand Run files name play none) in (
       have.sources,
       have.are_sources,
       λ old new text told calm. (

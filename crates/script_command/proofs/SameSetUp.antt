@@ -10,7 +10,7 @@ use Rattle.wa_model.specs.declared.answers.Area.{Area}
 use Rattle.script_model.specs.Script.{ProgramText}
 use Rattle.wa_model.specs.Step.{same_func_type}
 use Rattle.host_setup.specs.SetUp.{NamedEntry, Fault, all_told, area_bad, are_args, entries_fault, entry_func, entry_funcs, fault_at, first_false, func_named, have_args, is_area_in, is_defined_as, is_there, least_pages, needed, no_export, set_up, unless_fault}
-use Rattle.script_setup.specs.SetUpRules.{named_entry, set_up_rules, told_funcs, with_lines}
+use Rattle.script_setup.specs.SetUpRules.{asked_area, entries_in, named_entry, set_up_rules, told_funcs, with_lines}
 use Rattle.transform_command.proofs.Outlines.{outline}
 
 -- a module without the locals and the code of its functions, for crates above
@@ -57,7 +57,8 @@ module _ (p : Module) where
       (λ (e : NamedEntry). args_same e.args (entry_func p e.name)) entries)
 
   rules_same : (runs : Bool) (boxes : List (List ℕ)) (t : ProgramText) → set_up_rules runs boxes p t ≡ set_up_rules runs boxes (outline p) t
-  rules_same runs boxes t = ap (λ funcs. with_lines runs boxes p t (told_funcs t funcs)) (set_up_same t.area (map named_entry t.entries))
+  rules_same runs boxes t =
+      ap (λ funcs. with_lines runs boxes p t (told_funcs (asked_area p t) t funcs)) (set_up_same (asked_area p t).area (map named_entry (entries_in t)))
 
 -- Modules that have one outline have one set-up.
 pub same_rules : (runs : Bool) (boxes : List (List ℕ)) (p q : Module) (t : ProgramText) → outline p ≡ outline q → set_up_rules runs boxes p t ≡ set_up_rules runs boxes q t

@@ -5,6 +5,7 @@ use Rattle.vault_port.specs.Files.{Files}
 use Rattle.wa_types.specs.Validity.{Valid}
 use Rattle.script_setup.specs.SetUpRules.{named_entry}
 use Rattle.script_setup.proofs.GlobalTypes.{given_by_rules}
+use Rattle.script_setup.proofs.WithoutStrands.{funcs_alone}
 use Rattle.snapshot_store.specs.Snapshots.{snapshot_bytes}
 use Rattle.world_laws.specs.AloneLines.{Unbound}
 use Rattle.pause_host.proofs.Making.{set_up_fine}
@@ -21,17 +22,18 @@ use Rattle.script_command.specs.SavedSnapshots.{FindsSaved, SavedSnapshotsAreTak
 use Rattle.script_command.specs.SnapshotCalls.{Call, continues}
 use Rattle.script_command.specs.SnapshotTelling.{Cause, HoldsSnapshot, IsCause, IsRefused, long, programs_of, unfit, unplayed, unread, unwritten}
 use Rattle.script_command.proofs.GoingOver.{HasAlike, texts_of}
-use Rattle.script_command.proofs.Runs.{in_range}
+use Rattle.script_command.proofs.NoStrands.{HasNoStrand, unsaved_strands}
+use Rattle.script_command.proofs.Runs.{have_no_strand, in_range}
 use Rattle.script_command.proofs.SnapshotAnswering.{continue_passes}
 use Rattle.script_command.proofs.Unbinding.{unbound_programs}
 
 -- ---- programs that are set up
 
-stage_set : (files : Option Files) (boxes : List (List ℕ)) (x : Part) → IsStage Run boxes files x → FitsPlan x.text → HasRanges x.text → IsSetUp (world_program x)
-stage_set files boxes x stage fits ranges =
+stage_set : (files : Option Files) (boxes : List (List ℕ)) (x : Part) → IsStage Run boxes files x → FitsPlan x.text → HasRanges x.text → HasNoStrand x.text → IsSetUp (world_program x)
+stage_set files boxes x stage fits ranges none =
     let valid : Valid x.source = stage.module_is.3.2.rewrites.parts.valid_rewritten in
     let given = given_by_rules true boxes x.source x.text x.given stage.set_up in
-    let fine = set_up_fine x.source valid x.text.area (map named_entry x.text.entries) x.given.funcs given.funcs in
+    let fine = set_up_fine x.source valid x.text.area (map named_entry x.text.entries) x.given.funcs (funcs_alone x.text none true boxes x.source x.given stage.set_up) in
     record {
       valid = valid;
       exports = fine.exports;
@@ -42,18 +44,22 @@ stage_set files boxes x stage fits ranges =
       answers = ranges.answers;
     }
 
-stages_set : (files : Option Files) (boxes : List (List ℕ)) (xs : List Part) → All (IsStage Run boxes files) xs → All FitsPlan (texts_of xs) → All HasRanges (texts_of xs) → All IsSetUp (world_programs xs)
-stages_set files boxes [] stages fits ranges = All-nil IsSetUp
-stages_set files boxes (x ∷ xs) stages fits ranges =
+stages_set : (files : Option Files) (boxes : List (List ℕ)) (xs : List Part) → All (IsStage Run boxes files) xs → All FitsPlan (texts_of xs) → All HasRanges (texts_of xs) → All HasNoStrand (texts_of xs)
+    → All IsSetUp (world_programs xs)
+stages_set files boxes [] stages fits ranges none = All-nil IsSetUp
+stages_set files boxes (x ∷ xs) stages fits ranges none =
     All-cons IsSetUp (world_program x) (world_programs xs)
-    (stage_set files boxes x (All-head (IsStage Run boxes files) x xs stages) (All-head FitsPlan x.text (texts_of xs) fits) (All-head HasRanges x.text (texts_of xs) ranges))
-    (stages_set files boxes xs (All-tail (IsStage Run boxes files) x xs stages) (All-tail FitsPlan x.text (texts_of xs) fits) (All-tail HasRanges x.text (texts_of xs) ranges))
+    (stage_set files boxes x (All-head (IsStage Run boxes files) x xs stages) (All-head FitsPlan x.text (texts_of xs) fits) (All-head HasRanges x.text (texts_of xs) ranges)
+    (All-head HasNoStrand x.text (texts_of xs) none))
+    (stages_set files boxes xs (All-tail (IsStage Run boxes files) x xs stages) (All-tail FitsPlan x.text (texts_of xs) fits) (All-tail HasRanges x.text (texts_of xs) ranges)
+    (All-tail HasNoStrand x.text (texts_of xs) none))
 
 programs_set : (files : Option Files) (name : List ℕ) (play : Play files name) → All IsSetUp (programs_of play)
 programs_set files name play =
     let script = play.run.of_script.script in
     stages_set files (boxes_in play.run.whole) play.run.parts play.run.stages.each
     (subst (All FitsPlan) (sym play.run.stages.texts_are) (scripts_fit_plans play.run.of_script.bytes play.run.whole script.few script.text)) (in_range files name play.run)
+    (have_no_strand Run files name play.run (unsaved_strands play.run.whole play.none))
 
 all_saved : (xs : List Part) → All Unbound (world_programs xs) → All CanBeSaved (world_programs xs)
 all_saved [] h = All-nil CanBeSaved

@@ -1,11 +1,11 @@
 -- A script that was read, and its programs.
-use Rattle.std.proofs.Common.{◌≡◌, ◌≤◌, inl, inr, ℕ, List, [], ◌∷◌, length, map, Option, Result, Ok, Err, refl, sym, ap, ◌∙◌, subst, arith}
+use Rattle.std.proofs.Common.{◌≡◌, ◌≤◌, inl, inr, ℕ, List, [], ◌∷◌, length, map, Option, None, Result, Ok, Err, refl, sym, ap, ◌∙◌, subst, arith}
 use Rattle.std.specs.Prelude.{All, IfOk}
 use Rattle.std.proofs.lemmas.List.{length-map}
 use Rattle.vault_port.specs.Files.{Files}
 use Rattle.transcript.specs.Printing.{refusal_of}
 use Rattle.wa_model.specs.declared.answers.Detach.{Detach}
-use Rattle.script_model.specs.Script.{ProgramText, Script}
+use Rattle.script_model.specs.Script.{ProgramText, Script, strand_line}
 use Rattle.script_setup.specs.Scripts.{IsScript}
 use Rattle.wasm_reader.specs.Held.{Holds}
 use Rattle.script_setup.proofs.Counts.{few_programs}
@@ -18,7 +18,8 @@ use Rattle.script_command.specs.declared.opening.Opened.{Opened}
 use Rattle.script_command.specs.declared.stop.Stop.{Stop}
 use Rattle.script_command.proofs.Choices.{scripts_choose}
 use Rattle.script_command.specs.Playing.{Cause, HasChoice, HasScript, IsReached, IsRefused, Reaches, boxes_in, bad_line, bad_module, bad_script, detach_for}
-use Rattle.script_command.specs.Views.{AreOpened, Blames, BlamesPrograms, BlamesScript, CanPlay, IsRefusedNext, Opens, box_names_of}
+use Rattle.script_command.specs.Views.{AreOpened, Blames, BlamesPrograms, BlamesScript, IsReady, IsRefusedNext, Opens, box_names_of}
+use Rattle.script_command.proofs.NoStrands.{HasNoStrand, all_alone, no_strands}
 use Rattle.script_command.proofs.Openings.{stops_so, text_in, texts_of_parts}
 
 -- ---- what is opened
@@ -53,25 +54,31 @@ module _ (whole : ScriptValue) (read : (bytes : List ℕ) × IsScript bytes (scr
   texts_choose = scripts_choose read.0 (script_of whole) read.1.text
 
   pub opens : (files : Option Files) (name : List ℕ) → HasScript files name (script_of whole) → (way : Way) (mid : Option Files) (o : Opened) → mid ≡ files
-      → o.detaches.items ≡ whole.detaches.items → o.mailboxes.items ≡ whole.mailboxes.items → AreOpened way (box_names_of whole.mailboxes.items) mid (map program_of whole.programs.items) o.programs → Opens way files name o
-  opens files name has way mid o same taken declared are =
+      → o.detaches.items ≡ whole.detaches.items → o.mailboxes.items ≡ whole.mailboxes.items → o.strand ≡ strand_line (script_of whole) → AreOpened way (box_names_of whole.mailboxes.items) mid (map program_of whole.programs.items) o.programs → Opens way files name o
+  opens files name has way mid o same taken declared first are =
       let here : AreOpened way (box_names_of whole.mailboxes.items) files (map program_of whole.programs.items) o.programs = subst (λ (all : Option Files). AreOpened way (box_names_of whole.mailboxes.items) all (map program_of whole.programs.items) o.programs) same are in
       record {
         play = record { whole = script_of whole; of_script = has; parts = _; stages = here.stages };
         parts_are = refl;
         detaches_are = same_detaches whole.detaches.items ∙ sym taken;
         mailboxes_are = ap (map mailbox_of) (sym declared);
+        strand_is = sym first;
       }
 
-  pub plays : (way : Way) (mid : Option Files) (o : Opened) → AreOpened way (box_names_of whole.mailboxes.items) mid (map program_of whole.programs.items) o.programs → CanPlay o
-  plays way mid o are =
+  pub ready : (way : Way) (mid : Option Files) (o : Opened) → AreOpened way (box_names_of whole.mailboxes.items) mid (map program_of whole.programs.items) o.programs
+      → o.strand ≡ strand_line (script_of whole) → IsReady o
+  ready way mid o are first =
       let texts : map text_in o.programs.planned.items ≡ map program_of whole.programs.items =
       sym (texts_of_parts o.programs.modules.items o.programs.planned.items are.each) ∙ are.stages.texts_are in
       let l = ap (λ (ts : List ProgramText). length ts) texts in
       let n = length-map o.programs.planned.items text_in in
       let k = length-map whole.programs.items program_of in
       let few = few_texts in
-      record { few = omega (arith, l, n, k, few); each = are.each }
+      record {
+        few = omega (arith, l, n, k, few);
+        each = are.each;
+        alone = λ none. all_alone o.programs.planned.items (subst (All HasNoStrand) (sym texts) (no_strands (script_of whole) (sym first ∙ none)));
+      }
 
 -- ---- why it isn't
 

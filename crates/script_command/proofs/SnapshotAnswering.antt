@@ -2,7 +2,7 @@
 use Rattle.std.proofs.Common.{◌≡◌, ◌⊎◌, ◌≤◌, inl, inr, ℕ, List, length, Option, Some, None, refl, sym, ap, ◌∙◌, subst, arith}
 use Rattle.vault_port.specs.Counts.{FailsOnce}
 use Rattle.vault_port.specs.Files.{Files, IsMissing}
-use Rattle.script_model.specs.Script.{Script, sharing_line}
+use Rattle.script_model.specs.Script.{Script, unsaved_line}
 use Rattle.snapshot_store.specs.Snapshots.{Snapshot, SnapText}
 use Rattle.script_command.specs.declared.way.Way.TheVariants.{Run}
 use Rattle.script_command.specs.Playing as P
@@ -10,7 +10,7 @@ use Rattle.script_command.specs.Playing.{bad_line, bad_module, bad_script}
 use Rattle.script_command.proofs.WholeScripts.{IsThere, no_script_passes, one_cause, one_script, played_not_refused, played_reads, refused_reads}
 use Rattle.script_command.specs.SnapshotCalls.{Call, Deed, Output, continues, saves}
 use Rattle.script_command.specs.PlainScripts as S
-use Rattle.script_command.specs.PlainScripts.{IsRead, IsUnplayed, Play, has_sharing, not_run}
+use Rattle.script_command.specs.PlainScripts.{IsRead, IsUnplayed, Play, has_unsaved, not_run}
 use Rattle.script_command.specs.SnapshotTelling.{Cause, HoldsMore, HoldsNone, HoldsSnapshot, IsReadBy, IsRefused, long, most_bytes, programs_of, unfit, unplayed, unread, unwritten}
 use Rattle.script_command.specs.SnapshotEnds.{End, HasEnd, IsWhy, done, memory, refused, sink_fault}
 use Rattle.script_command.specs.SnapshotAnswers.{CanBeDone, HasOneEnd, IsLong, IsReadFault, NothingFails}
@@ -21,29 +21,29 @@ use Rattle.script_command.proofs.SamePrograms.{same_suits}
 
 module _ (all : Files) (name : List ℕ) where
   -- one that has such a line, and one that has none
-  never_both : (a b : Script) (line : ℕ) → P.HasScript (Some all) name a → P.HasScript (Some all) name b → sharing_line a ≡ Some line → sharing_line b ≡ None → ⊥
+  never_both : (a b : Script) (line : ℕ) → P.HasScript (Some all) name a → P.HasScript (Some all) name b → unsaved_line a ≡ Some line → unsaved_line b ≡ None → ⊥
   never_both a b line h k some none =
-      let bad = sym some ∙ ap sharing_line (one_script all name a b h k) ∙ none in
+      let bad = sym some ∙ ap unsaved_line (one_script all name a b h k) ∙ none in
       cc
 
-  named_once : (c : P.Cause) (line : ℕ) → S.SharesAt (Some all) name line → IsUnplayed (Some all) name (not_run c) → ⊥
+  named_once : (c : P.Cause) (line : ℕ) → S.HasUnsavedAt (Some all) name line → IsUnplayed (Some all) name (not_run c) → ⊥
   named_once (bad_script r) line named h = no_script_passes all name named.whole r named.of_script h
   named_once (bad_module number r) line named h = never_both named.whole h.1.whole line named.of_script h.1.of_script named.first h.1.none
   named_once (bad_line at rule) line named h = never_both named.whole h.1.whole line named.of_script h.1.of_script named.first h.1.none
 
   -- two causes are one
   one_unplayed : (c d : S.Cause) → IsUnplayed (Some all) name c → IsUnplayed (Some all) name d → c ≡ d
-  one_unplayed (has_sharing i) (has_sharing j) h k =
-      let same = sym h.first ∙ ap sharing_line (one_script all name h.whole k.whole h.of_script k.of_script) ∙ k.first in
+  one_unplayed (has_unsaved i) (has_unsaved j) h k =
+      let same = sym h.first ∙ ap unsaved_line (one_script all name h.whole k.whole h.of_script k.of_script) ∙ k.first in
       let number : i ≡ j = cc in
-      ap has_sharing number
-  one_unplayed (has_sharing i) (not_run d) h k = absurd (named_once d i h k)
-  one_unplayed (not_run c) (has_sharing j) h k = absurd (named_once c j k h)
+      ap has_unsaved number
+  one_unplayed (has_unsaved i) (not_run d) h k = absurd (named_once d i h k)
+  one_unplayed (not_run c) (has_unsaved j) h k = absurd (named_once c j k h)
   one_unplayed (not_run c) (not_run d) h k = ap not_run (one_cause Run all name c d (run_refused (Some all) name c h) (run_refused (Some all) name d k))
 
   -- what can be played isn't refused
   played_passes : (c : S.Cause) → Play (Some all) name → IsUnplayed (Some all) name c → ⊥
-  played_passes (has_sharing line) play h = never_both h.whole play.run.whole line h.of_script play.run.of_script h.first play.none
+  played_passes (has_unsaved line) play h = never_both h.whole play.run.whole line h.of_script play.run.of_script h.first play.none
   played_passes (not_run c) play h = played_not_refused Run all name c play.run (run_refused (Some all) name c h)
 
   own_there : (whole : Script) → P.HasScript (Some all) name whole → IsThere all name
@@ -51,7 +51,7 @@ module _ (all : Files) (name : List ℕ) where
 
   -- what is read of either is there
   unplayed_there : (c : S.Cause) (read : List ℕ) → IsUnplayed (Some all) name c → IsRead (Some all) name read → IsThere all read
-  unplayed_there (has_sharing line) read h is = elim is [
+  unplayed_there (has_unsaved line) read h is = elim is [
     | inl same ↦ subst (IsThere all) (sym same) (own_there h.whole h.of_script)
     | inr r ↦ absurd (never_both h.whole r.1.whole line h.of_script r.1.of_script h.first r.1.none)
   ]

@@ -9,7 +9,7 @@ use Rattle.script_command.specs.Playing.{bad_line, bad_module, bad_script}
 use Rattle.script_command.proofs.Statuses.{end_status}
 use Rattle.script_command.specs.SnapshotCalls.{Call, Deed, Output, continues, saves}
 use Rattle.script_command.specs.PlainScripts as S
-use Rattle.script_command.specs.PlainScripts.{IsUnplayed, has_sharing, not_run, refusal_for}
+use Rattle.script_command.specs.PlainScripts.{IsUnplayed, has_unsaved, not_run, refusal_for}
 use Rattle.script_command.specs.SnapshotTelling.{IsCause, long, unfit, unplayed, unread, unwritten}
 use Rattle.script_command.specs.SnapshotEnds.{End, HasEnd, IsOwnStatus, IsStatus, IsWhy, done, memory, refused, sink_fault, status_of_end}
 
@@ -62,7 +62,7 @@ module _ (deed : Deed) (n : ℕ) where
   own e = inr (inr (inr (inr (inr (inr (inr (inr (inr (inr e)))))))))
 
   unplayed_status : (files : Option Files) (name : List ℕ) (cause : S.Cause) → n ≡ status_of (refusal_for cause) → IsUnplayed files name cause → IsStatus deed n
-  unplayed_status files name (has_sharing line) e h = eight e
+  unplayed_status files name (has_unsaved line) e h = eight e
   unplayed_status files name (not_run cause) e h =
       from_run (end_status (E.call Run name files 0 0 0 0 None None [] []) n (refused_run files name cause n e (run_refused files name cause h)))
 

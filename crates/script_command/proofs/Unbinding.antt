@@ -1,4 +1,4 @@
--- The programs of a script without `device` and `mailbox` lines are bound to no device, wherever they go on from.
+-- The programs of a script without `device`, `mailbox` and `strand` lines are bound to no device, wherever they go on from.
 use Rattle.std.proofs.Common.{◌≡◌, ◌++◌, ℕ, List, [], ◌∷◌, Option, Some, None, refl, ap, ◌∙◌}
 use Rattle.std.specs.Prelude.{All, slice_get}
 use Rattle.std.specs.List.{flat_map}
@@ -6,7 +6,7 @@ use Rattle.std.specs.Option.{option_map}
 use Rattle.std.proofs.lemmas.List.Elements.{All-cons, All-head, All-nil, All-tail}
 use Rattle.vault_port.specs.Files.{Files}
 use Rattle.world_model.specs.World.{Program}
-use Rattle.script_model.specs.Script.{BindText, ProgramText, Script, device_line, lesser_line, mailbox_line, sharing_line}
+use Rattle.script_model.specs.Script.{BindText, ProgramText, Script, device_line, lesser_line, mailbox_line, strand_line, unsaved_line}
 use Rattle.snapshot_store.specs.Snapshots.{ProgramRecord}
 use Rattle.world_laws.specs.AloneLines.{Unbound}
 use Rattle.world_laws.specs.Snapshots.{from_record, from_records}
@@ -41,8 +41,8 @@ neither None b e = refl
 neither (Some a) None e = cc
 neither (Some a) (Some b) e = cc
 
-no_devices : (whole : Script) → sharing_line whole ≡ None → device_line whole ≡ None
-no_devices whole e = neither (device_line whole) (mailbox_line whole) e
+no_devices : (whole : Script) → unsaved_line whole ≡ None → device_line whole ≡ None
+no_devices whole e = neither (device_line whole) (lesser_line (mailbox_line whole) (strand_line whole)) e
 
 -- from their start on
 pub unbound_programs : (files : Option Files) (name : List ℕ) (play : Play files name) → All Unbound (programs_of play)
@@ -55,5 +55,5 @@ still_unbound (w ∷ ws) (r ∷ rs) h =
     All-cons Unbound (from_record w r) (from_records ws rs) (All-head Unbound w ws h) (still_unbound ws rs (All-tail Unbound w ws h))
 
 -- and from their records
-pub unbound_from : (whole : Script) (xs : List Part) (rs : List ProgramRecord) → sharing_line whole ≡ None → texts_of xs ≡ whole.programs → All Unbound (from_records (world_programs xs) rs)
+pub unbound_from : (whole : Script) (xs : List Part) (rs : List ProgramRecord) → unsaved_line whole ≡ None → texts_of xs ≡ whole.programs → All Unbound (from_records (world_programs xs) rs)
 unbound_from whole xs rs none texts = still_unbound (world_programs xs) rs (all_unbound xs (ap first_line texts ∙ no_devices whole none))

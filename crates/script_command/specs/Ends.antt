@@ -11,7 +11,7 @@ use Rattle.transcript.specs.Refused.{status_of, Prints, PrintsMemoryPast}
 use Rattle.script_command.specs.declared.way.Way.{Way}
 use Rattle.script_command.specs.declared.way.Way.TheVariants.{Run}
 use Rattle.script_command.specs.Playing.{Cause, bad_module, Play, IsRefused, IsRead, refusal_of_cause}
-use Rattle.script_command.specs.MailTold.{IsBegun, IsTold}
+use Rattle.script_command.specs.Told.{IsBegun, IsTold}
 
 -- A call: its way and its script; the files; the counts of faults, what the sink has taken and the devices, with their counts, before and after it. (The
 -- files stay as they are.)

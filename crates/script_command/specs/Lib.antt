@@ -16,5 +16,11 @@ pub mod SnapshotCalls
 pub mod SnapshotEnds
 pub mod SnapshotTelling
 pub mod SnapshotViews
+pub mod StrandLogs
+pub mod StrandOriginals
+pub mod StrandTold
+pub mod StrandViews
+pub mod StrandWorlds
+pub mod Told
 pub mod Transcripts
 pub mod Views

@@ -1,5 +1,5 @@
 -- What is told of a script with mailboxes, as a run of the originals of its programs.
-use Rattle.std.specs.Prelude.{◌≡◌, ◌⊎◌, ℕ, List, [], ◌∷◌, length, Option, Some, slice_get}
+use Rattle.std.specs.Prelude.{◌≡◌, ◌⊎◌, ℕ, List, length, Option, Some, slice_get}
 use Rattle.std.specs.List.{AllZip}
 use Rattle.vault_port.specs.Files.{Files}
 use Rattle.vault_port.specs.declared.whole.PutFault.{PutFault}
@@ -7,7 +7,6 @@ use Rattle.world_model.specs.World.{Original, Program}
 use Rattle.world_laws.specs.UntoldWorlds.{OrderlyUntold}
 use Rattle.mail_laws.specs.MailOriginals.{AllRunAsFar, RunsAsFar, met}
 use Rattle.mail_laws.specs.MailWorld.{Actor, BlockingWorld}
-use Rattle.script_model.specs.Script.{MailboxText}
 use Rattle.script_model.specs.Transcript.{Transcript}
 use Rattle.event_order.specs.Left.{Counted}
 use Rattle.many_host.specs.Calls.{devices_of}
@@ -22,10 +21,8 @@ use Rattle.world_hosting.specs.Worlds.{world_programs}
 use Rattle.script_command.specs.declared.way.Way.{Way}
 use Rattle.script_command.specs.declared.way.Way.TheVariants.{Host, Run}
 use Rattle.script_command.specs.HostedOriginals.{IsHosted, hosted_originals}
-use Rattle.script_command.specs.OfOriginals.{IsToldOf}
 use Rattle.script_command.specs.Playing.{Play, boxes_in, detaches_in}
 use Rattle.script_command.specs.RunOriginals.{IsSource, original_names}
-use Rattle.script_command.specs.Transcripts.{IsBeginning}
 
 -- ---- the text
 
@@ -81,18 +78,3 @@ pub record IsMailToldOf {way : Way} {files : Option Files} {name : List ℕ} (pl
   pub originals : OfMailOriginals way files name play old new text told
   pub logs : AreLoggedBeside (boxes_of play) (world_programs play.parts) (detaches_in play.whole) told.lines told.met (devices_of old) (devices_of new)
   pub faults : AllZip CountsTo (with_told_by ends_event (world_programs play.parts) (detaches_in play.whole) 0 0 told.lines old) new
-
--- ---- with mailboxes and without
-
--- the one where no mailbox is declared, and the other where one is
-abbrev pub ByMail : List MailboxText → (without with : Type 0) → Type 0
-ByMail [] without with = without
-ByMail (m ∷ ms) without with = with
-
--- what is printed tells all that is played
-abbrev pub IsTold : {way : Way} {files : Option Files} {name : List ℕ} → Play way files name → (old new : List Counted) → List ℕ → Type 0
-IsTold play old new text = ByMail play.whole.mailboxes (IsToldOf play old new text) (IsMailToldOf play old new text)
-
--- .. or its beginning
-abbrev pub IsBegun : PutFault → {way : Way} {files : Option Files} {name : List ℕ} → Play way files name → (old new : List Counted) → (least : ℕ) → List ℕ → Type 0
-IsBegun fault play old new least text = ByMail play.whole.mailboxes (IsBeginning fault play old new least text) (IsMailBeginning fault play old new least text)

@@ -1,7 +1,8 @@
 -- What `run` tells of a script's programs, as a run of their originals.
-use Rattle.std.specs.Prelude.{◌≡◌, ℕ, List, [], ◌∷◌, length, Option, Some}
+use Rattle.std.specs.Prelude.{◌≡◌, ℕ, List, [], ◌∷◌, length, Option, Some, None}
 use Rattle.std.specs.List.{AllZip}
 use Rattle.vault_port.specs.Files.{Files}
+use Rattle.script_model.specs.Script.{strand_line}
 use Rattle.script_model.specs.Transcript.{Names, Transcript}
 use Rattle.world_model.specs.World.{BlockingWorld}
 use Rattle.event_order.specs.Left.{Counted}
@@ -27,11 +28,11 @@ original_names [] ys = []
 original_names (x ∷ xs) [] = []
 original_names (x ∷ xs) (y ∷ ys) = program_names x.original y.text ∷ original_names xs ys
 
--- What is told under `run` has originals: where each touches no byte of its area with the outcomes that its calls met, the lines are
+-- What is told under `run` of a script without strands has originals: where each touches no byte of its area with the outcomes that its calls met, the lines are
 -- those of a run of their blocking world, with the same devices, and the text is its transcript, with the originals' own names.
 abbrev pub RunsAreOfOriginals : Type 0
 RunsAreOfOriginals =
-    (files : Option Files) (name : List ℕ) (play : Play Run files name)
+    (files : Option Files) (name : List ℕ) (play : Play Run files name) → strand_line play.whole ≡ None
     → (sources : List Source) × AllZip (IsSource files) sources play.parts
     × ((old new : List Counted) (text : List ℕ) (told : AreTold play.parts (detaches_in play.whole) old new text)
     → AllZip StaysOff (originals_for sources play.parts) told.world.actors

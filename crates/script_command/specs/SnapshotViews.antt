@@ -33,7 +33,7 @@ use Rattle.script_command.specs.SnapshotEnds.{IsLine, IsWhy, sink_fault}
 
 -- ---- scripts
 
--- What a script without a `device` line opens.
+-- What a script without a `device`, `mailbox` or `strand` line opens.
 pub record Opens (files : Option Files) (name : List ℕ) (o : Opened) : Type 0 where
   pub play : Play files name
   pub parts_are : play.run.parts ≡ parts_of o.programs.modules.items o.programs.planned.items

@@ -1,11 +1,14 @@
 -- What is answered, as plain data.
-use Rattle.std.specs.Prelude.{◌≡◌, ◌⊎◌, ◌≤◌, ◌++◌, ℕ, List, [], ◌∷◌, length, map, Option, None, Result, Err}
+use Rattle.std.specs.Prelude.{◌≡◌, ◌⊎◌, ◌≤◌, ◌++◌, ℕ, List, [], ◌∷◌, length, map, All, Option, None, Result, Ok, Err}
 use Rattle.std.specs.List.{AllZip}
 use Rattle.vault_port.specs.Counts.{FailsAtMostOnce}
 use Rattle.vault_port.specs.Files.{Files, CannotRead}
+use Rattle.wa_types.specs.Modules.{imported, imported_global}
+use Rattle.wa_types.specs.Syntax.{Module}
 use Rattle.wa_types.specs.View.{module_of}
 use Rattle.wa_types.specs.declared.syntax.Module.{Module as ModuleValue}
-use Rattle.script_model.specs.Script.{ProgramText, ScriptFault, breaks}
+use Rattle.run_theory.specs.Fitting.{global_types, types_of}
+use Rattle.script_model.specs.Script.{ProgramText, ScriptFault, breaks, strand_line}
 use Rattle.script_model.specs.Transcript.{read_fault}
 use Rattle.transcript.specs.Printing.{refusal_of}
 use Rattle.transcript.specs.declared.refusals.Refusal.{Refusal as RefusalValue}
@@ -15,7 +18,10 @@ use Rattle.module_files.specs.declared.fault.FileFault.{FileFault}
 use Rattle.module_files.specs.declared.fault.FileFault.TheVariants as F
 use Rattle.script_reader.specs.Views.{mailbox_of, program_of}
 use Rattle.script_reader.specs.declared.script.MailboxText.{MailboxText}
-use Rattle.script_setup.specs.SetUpRules.{SetUp, box_names}
+use Rattle.host_setup.specs.SetUp.{set_up}
+use Rattle.host_setup.specs.Views.{entry_of as named_entry_of}
+use Rattle.script_setup.specs.declared.setting.SetUp.{SetUp as SetUpValue}
+use Rattle.script_setup.specs.SetUpRules.{SetUp, asked_area, box_names, entries_in, named_entry, overlap_line}
 use Rattle.script_setup.specs.Views.{set_up_of}
 use Rattle.world_hosting.specs.Worlds.{FitsPlan, IsListing, Part}
 use Rattle.world_hosting.specs.Views.{Suits, listing}
@@ -55,17 +61,35 @@ parts_of [] ps = []
 parts_of (v ∷ vs) [] = []
 parts_of (v ∷ vs) (p ∷ ps) = part_of v p ∷ parts_of vs ps
 
--- What is planned over a module can be staged: its text fits a plan, each function import is told to be listed or not where that is
+-- What is planned over a module can be staged without further strands: its text fits a plan, each function import is told to be listed or not where that is
 -- told at all, and what it is given suits it.
 pub record CanStage (v : ModuleValue) (p : Planned) : Type 0 where
   pub fits : FitsPlan (program_of p.text)
   pub listing : IsListing (module_of v) (listing p.listed)
   pub suits : Suits (module_of v) (program_of p.text) p.given
 
+-- What a program is given suits it and all its strands: the functions are those of the entries of all, no two of whose areas share a byte, and the
+-- values have the types of its imported globals.
+pub record SuitsStrands (p : Module) (t : ProgramText) (x : SetUpValue) : Type 0 where
+  pub entries : map named_entry_of x.entries.items ≡ map named_entry (entries_in t)
+  pub funcs : set_up p (asked_area p t).area (map named_entry (entries_in t)) ≡ Ok x.funcs.items
+  pub apart : overlap_line (t.area ∷ []) t.strands ≡ None
+  pub globals : types_of x.globals.items ≡ global_types (imported imported_global p)
+
+-- What is planned over a module can be opened: the same of all its strands.
+pub record CanOpen (v : ModuleValue) (p : Planned) : Type 0 where
+  pub fits : FitsPlan (program_of p.text)
+  pub listing : IsListing (module_of v) (listing p.listed)
+  pub suits : SuitsStrands (module_of v) (program_of p.text) p.given
+
+-- it has no further strand
+abbrev pub IsAlone : Planned → Type 0
+IsAlone p = (program_of p.text).strands ≡ []
+
 -- The programs are those of these texts, each set up over its module.
 pub record AreOpened (way : Way) (boxes : List (List ℕ)) (files : Option Files) (texts : List ProgramText) (ps : Programs) : Type 0 where
   pub stages : AreStages way boxes files texts (parts_of ps.modules.items ps.planned.items)
-  pub each : AllZip CanStage ps.modules.items ps.planned.items
+  pub each : AllZip CanOpen ps.modules.items ps.planned.items
 
 -- They are one more, that of this text, set up over its module.
 pub record OpensNext (way : Way) (boxes : List (List ℕ)) (files : Option Files) (t : ProgramText) (old new : Programs) : Type 0 where
@@ -75,18 +99,25 @@ pub record OpensNext (way : Way) (boxes : List (List ℕ)) (files : Option Files
   pub planned_are : new.planned.items ≡ old.planned.items ++ planned ∷ []
   pub text_is : program_of planned.text ≡ t
   pub stage : IsStage way boxes files (part_of valid planned)
-  pub can : CanStage valid planned
+  pub can : CanOpen valid planned
 
 -- ---- scripts
 
--- What a script opens: what it plays, the devices that it takes out, and its mailboxes.
+-- What a script opens: what it plays, the devices that it takes out, its mailboxes, and its first `strand` line.
 pub record Opens (way : Way) (files : Option Files) (name : List ℕ) (o : Opened) : Type 0 where
   pub play : Play way files name
   pub parts_are : play.parts ≡ parts_of o.programs.modules.items o.programs.planned.items
   pub detaches_are : detaches_in play.whole ≡ o.detaches.items
   pub mailboxes_are : play.whole.mailboxes ≡ map mailbox_of o.mailboxes.items
+  pub strand_is : strand_line play.whole ≡ o.strand
 
--- .. which can be played: there are few programs, and each can be staged over its module
+-- .. which is ready: there are few programs, each can be opened over its module, and none has a further strand where no `strand` line is told
+pub record IsReady (o : Opened) : Type 0 where
+  pub few : length o.programs.planned.items ≤ 16
+  pub each : AllZip CanOpen o.programs.modules.items o.programs.planned.items
+  pub alone : o.strand ≡ None → All IsAlone o.programs.planned.items
+
+-- .. which can be played without strands: each can be staged over its module
 pub record CanPlay (o : Opened) : Type 0 where
   pub few : length o.programs.planned.items ≤ 16
   pub each : AllZip CanStage o.programs.modules.items o.programs.planned.items

@@ -34,7 +34,7 @@ use world_hosting::{Resumed, continue_programs};
 
 /// `continue SCRIPT SNAP`: sets a script up as `run` does, puts its programs where the snapshot has them, plays them to their ends, and prints
 /// the lines of that and the last line, with all events counted. Answers the status: 0 done; 3 to 7 for a program's module, by why it is
-/// refused; 8 for a line of the script, one that names a device too; 6 for its length, a seventeenth program or the snapshot's length too;
+/// refused; 8 for a line of the script, one of a device, mailbox or strand too; 6 for its length, a seventeenth program or the snapshot's length too;
 /// 9 want of memory; 10 for a file that could not be read; 12 for a sink that failed; 13 for a snapshot that does not fit. No file changes.
 pub fn continue_script<V: Vault, S: Sink>(
     alloc: Global,
@@ -152,6 +152,7 @@ fn continue_from<S: Sink>(
         programs,
         detaches,
         mailboxes,
+        strand: _,
     } = opened;
     drop(mailboxes);
     let Programs { modules, planned } = programs;

@@ -4,9 +4,10 @@
 //! the caller lends (`specs/Transcripts.antt`): of `host` over prepared modules as they are, of `run` over originals that are rewritten
 //! first. It has one end, by its status, with a reason, what was printed and what became of the devices (`specs/Ends.antt`). To open a
 //! script is to read it, then each of its programs in order, its module first and then its set-up rules: `open_script` answers the programs,
-//! or why the first that can't be set up isn't (`specs/Playing.antt`).
+//! or why the first that can't be set up isn't (`specs/Playing.antt`). What is told goes by the script's lines (`specs/Told.antt`): of programs that
+//! share mailboxes, of programs with strands, calls that are suspended side by side in one instance, or of programs that have neither.
 //!
-//! `save_script` and `continue_script` set the programs up as `run` does; the script names no device, which is their own rule 18
+//! `save_script` and `continue_script` set the programs up as `run` does; the script has no line of a device, mailbox or strand, which is their own rule 18
 //! (`specs/PlainScripts.antt`). `save_script` prints the lines of the first events, or of all where there are fewer, and then writes the
 //! snapshot. `continue_script` reads a snapshot, whatever wrote it, refuses one that doesn't fit the script's programs, and prints the lines
 //! that are left and the last line, with all events counted. What is told, and what is refused, is in `specs/SnapshotTelling.antt`. Such a
@@ -28,7 +29,8 @@
 //!
 //! - `way`, `modules`, `programs`, `opening`: whether modules are rewritten, a program's module, the programs in order, and the script.
 //! - `staging`, `playing`: programs over their modules, and the commands `host` and `run`.
-//! - `plain_scripts`, `stop`: scripts without devices, opened; and why a call stops before it is done.
+//! - `strand_planning`, `strand_staging`, `strand_playing`: the same of programs with further strands.
+//! - `plain_scripts`, `stop`: scripts without devices, mailboxes and strands, opened; and why a call stops before it is done.
 //! - `saving`, `files`: the first events, and the snapshot's file.
 //! - `resuming`, `continuing`: programs that stand for their records, and what they tell from there.
 //! - `originals_run`, `laws`, `joining`, `verdicts`: the laws on `run`, on `host`, on what is saved and gone on with, and on refusals.
@@ -48,6 +50,9 @@ mod resuming;
 mod saving;
 mod staging;
 mod stop;
+mod strand_planning;
+mod strand_playing;
+mod strand_staging;
 mod verdicts;
 mod way;
 

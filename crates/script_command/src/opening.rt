@@ -2,28 +2,30 @@
 
 ghost use Rattle.std.specs.Prelude.{◌≡◌, ◌≤◌, ℕ, List, IfOk, OnOk, map};
 ghost use Rattle.std.specs.Result.{IfErr};
+ghost use Rattle.script_model.specs.Script.{strand_line};
 ghost use Rattle.script_reader.specs.Views.{program_of, script_of};
 ghost use Rattle.script_setup.specs.Scripts.{IsScript};
 ghost use Rattle.script_command.specs.Playing.{HasScript};
-ghost use Rattle.script_command.specs.Views.{AreOpened, Blames, BlamesPrograms, BlamesScript, CanPlay, Opens, box_names_of};
+ghost use Rattle.script_command.specs.Views.{AreOpened, Blames, BlamesPrograms, BlamesScript, IsReady, Opens, box_names_of};
 
 use crate::programs::{Programs, open_programs};
 use crate::stop::{Stop, refused, unread};
 use crate::way::Way;
 use module_files::FileFault;
-use script_reader::{MailboxText, Script};
+use script_reader::{MailboxText, Script, strand_line};
 use script_setup::fetch_script;
 use std::alloc::Global;
 use vault_port::Vault;
 use wa_model::Detach;
 use world_hosting::scripts_fit;
 
-/// A script's programs, all set up over their modules, the devices that it takes out, and its mailboxes.
+/// A script's programs, all set up over their modules, the devices that it takes out, its mailboxes, and its first `strand` line, where it has one.
 #[derive(Drop)]
 pub struct Opened {
     pub programs: Programs,
     pub detaches: Vec<Detach>,
     pub mailboxes: Vec<MailboxText>,
+    pub strand: Option<u32>,
 }
 
 /// Reads a script, then each of its programs in order: its module, and then its set-up rules. Answers them, or why the first that
@@ -35,7 +37,7 @@ pub(crate) fn open_script<V: Vault>(
     script: &str,
 ) -> Result<Opened, Stop>
     ensures opened { IfOk result (λ o. Opens way (V.files vault.old) script.now o) }
-    ensures plays { IfOk result CanPlay }
+    ensures ready { IfOk result IsReady }
     ensures refused { IfErr result (λ stop. Blames way (V.files vault.old) (V.fetch_faults vault.old) (V.fetch_faults vault.new) script.now stop) }
     ensures kept { V.files vault.new ≡ V.files vault.old }
     ensures stays { OnOk result (V.fetch_faults vault.new ≡ V.fetch_faults vault.old) }
@@ -69,8 +71,8 @@ pub(crate) fn read_whole<V: Vault>(
     }
 }
 
-/// The programs of a script that was read, in order, the devices that it takes out, and its mailboxes; or why the first program that isn't set up can't
-/// be. No file changes.
+/// The programs of a script that was read, in order, the devices that it takes out, its mailboxes and its first `strand` line; or why the first program
+/// that isn't set up can't be. No file changes.
 pub(crate) fn open_whole<V: Vault>(
     alloc: Global,
     vault: &mut V,
@@ -81,7 +83,8 @@ pub(crate) fn open_whole<V: Vault>(
     ensures opened { IfOk result (λ o. AreOpened way (box_names_of whole.mailboxes.items) (V.files vault.old) (map program_of whole.programs.items) o.programs) }
     ensures detaches { IfOk result (λ o. o.detaches.items ≡ whole.detaches.items) }
     ensures mailboxes { IfOk result (λ o. o.mailboxes.items ≡ whole.mailboxes.items) }
-    ensures plays { IfOk result CanPlay }
+    ensures strand { IfOk result (λ o. o.strand ≡ strand_line (script_of whole)) }
+    ensures ready { IfOk result IsReady }
     ensures refused { IfErr result (λ stop. BlamesPrograms way (box_names_of whole.mailboxes.items) (V.files vault.old) (V.fetch_faults vault.old) (V.fetch_faults vault.new)
         (map program_of whole.programs.items) stop) }
     ensures kept { V.files vault.new ≡ V.files vault.old }
@@ -90,6 +93,7 @@ pub(crate) fn open_whole<V: Vault>(
     ensures saves { V.save_faults vault.new ≡ V.save_faults vault.old }
 {
     scripts_fit();
+    let strand = strand_line(&whole);
     let Script {
         programs,
         detaches,
@@ -100,6 +104,7 @@ pub(crate) fn open_whole<V: Vault>(
             programs,
             detaches,
             mailboxes,
+            strand,
         }),
         Err(stop) => Err(stop),
     }

@@ -1,4 +1,4 @@
-//! Scripts without `device` and `mailbox` lines, opened.
+//! Scripts without `device`, `mailbox` and `strand` lines, opened.
 
 ghost use Rattle.std.specs.Prelude.{◌≡◌, ◌≤◌, IfOk, OnOk};
 ghost use Rattle.std.specs.Result.{IfErr};
@@ -8,16 +8,16 @@ ghost use Rattle.script_command.specs.SnapshotViews.{Blames, Opens};
 use crate::opening::{Opened, open_whole, read_whole};
 use crate::stop::{Stop, refused};
 use crate::way::Way;
-use script_reader::sharing_line;
+use script_reader::unsaved_line;
 use std::alloc::Global;
 use transcript::RefusalKind;
 use vault_port::Vault;
 
-/// The rule that a script which is saved or continued has no `device` or `mailbox` line.
-const SHARING_RULE: u8 = 18;
+/// The rule that a script which is saved or continued has no `device`, `mailbox` or `strand` line.
+const UNSAVED_RULE: u8 = 18;
 
-/// Reads a script that has no `device` or `mailbox` line, then each of its programs in order, as `run` does: its module, which is rewritten, and then
-/// its set-up rules. Answers them, or the first reason against it. No file changes.
+/// Reads a script that has no `device`, `mailbox` or `strand` line, then each of its programs in order, as `run` does: its module, which
+/// is rewritten, and then its set-up rules. Answers them, or the first reason against it. No file changes.
 pub(crate) fn open_plain<V: Vault>(
     alloc: Global,
     vault: &mut V,
@@ -35,10 +35,10 @@ pub(crate) fn open_plain<V: Vault>(
         Ok(whole) => whole,
         Err(stop) => return Err(stop),
     };
-    match sharing_line(&whole) {
+    match unsaved_line(&whole) {
         Some(line) => Err(refused(RefusalKind::Script {
             line,
-            rule: SHARING_RULE,
+            rule: UNSAVED_RULE,
         })),
         None => open_whole(alloc, vault, Way::Run, whole),
     }

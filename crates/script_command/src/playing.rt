@@ -1,14 +1,15 @@
 //! A script, played: from its file to the status.
 
-ghost use Rattle.std.specs.Prelude.{◌≡◌, ◌≤◌, [], IfOk, ℕ, List, Option, length, map};
+ghost use Rattle.std.specs.Prelude.{◌≡◌, ◌≤◌, [], IfOk, ℕ, List, None, Option, length, map};
 ghost use Rattle.vault_port.specs.Counts.{FailsAtMostOnce};
 ghost use Rattle.vault_port.specs.Files.{Files};
 ghost use Rattle.transcript.specs.Refused.{CountsBy};
 ghost use Rattle.host_laws.specs.Supplies.{IsLent};
+ghost use Rattle.script_model.specs.Script.{strand_line};
 ghost use Rattle.script_reader.specs.Views.{mailbox_of};
 ghost use Rattle.script_setup.specs.SetUpRules.{box_names};
 ghost use Rattle.script_command.specs.Playing.{Play, detaches_in};
-ghost use Rattle.script_command.specs.Views.{CanPlay, Opens};
+ghost use Rattle.script_command.specs.Views.{CanPlay, IsReady, Opens};
 ghost use Rattle.script_command.specs.declared.way.Way.{Way as WayValue};
 ghost use Rattle.world_hosting.specs.Counts.{counted};
 ghost use Rattle.world_hosting.specs.Views.{AreStaged};
@@ -20,7 +21,8 @@ ghost use Rattle.script_command.specs.MailTold.{boxes_of};
 use crate::opening::{Opened, open_script};
 use crate::programs::Programs;
 use crate::staging::stage_all;
-use crate::stop::tell_stop;
+use crate::stop::{SINK_FAULT, tell_stop};
+use crate::strand_playing::play_strands;
 use crate::way::Way;
 use device_port::{Device, Devices};
 use script_reader::MailboxText;
@@ -30,9 +32,6 @@ use vault_port::{PutFault, Sink, Vault};
 use wa_model::Detach;
 use wa_types::Name;
 use world_hosting::{Staged, host_mail_programs, host_programs};
-
-/// The status of a sink that failed while a transcript was printed.
-const SINK_FAULT: u8 = 12;
 
 /// `host SCRIPT` or `run SCRIPT`: reads the script, then each of its programs in order, its module first and then its set-up rules,
 /// and prints the transcript of what they tell, with these devices. Answers the status: 0 done; 3 to 7 for a program's module, by why
@@ -66,10 +65,35 @@ pub fn play_script<V: Vault, S: Sink>(
     }
 }
 
-// Plays what was opened.
+// Plays what was opened, with strands where there are some.
 fn play<S: Sink>(alloc: Global, out: &mut S, devices: &mut Devices<'_>, opened: Opened) -> u8
     requires lent { IsLent }
+    requires ready { IsReady opened }
+    ensures end { (way : WayValue) (files : Option Files) (name : List ℕ) (fetched fetched' : ℕ) → Opens way files name opened
+        → HasEnd (call way name files fetched fetched' (S.faults out.old) (S.faults out.new) (S.taken out.old) (S.taken out.new)
+        (counted seen (λ d. (⟦<dyn Device as Device>⟧ d.0).faults d.1) devices.old)
+        (counted seen (λ d. (⟦<dyn Device as Device>⟧ d.0).faults d.1) devices.new)) result }
+    ensures same_list { devices.new.list.ghost_name ≡ devices.old.list.ghost_name }
+    ensures once { FailsAtMostOnce (S.faults out.old) (S.faults out.new) }
+    ensures stays { result ≡ 0 → S.faults out.new ≡ S.faults out.old }
+    ensures faults { S.faults out.old ≤ S.faults out.new }
+{
+    match opened.strand {
+        None => play_plainly(alloc, out, devices, opened),
+        Some(_) => play_strands(alloc, out, devices, opened),
+    }
+}
+
+// Plays what was opened of a script without `strand` lines.
+fn play_plainly<S: Sink>(
+    alloc: Global,
+    out: &mut S,
+    devices: &mut Devices<'_>,
+    opened: Opened,
+) -> u8
+    requires lent { IsLent }
     requires plays { CanPlay opened }
+    requires none { opened.strand ≡ None }
     ensures end { (way : WayValue) (files : Option Files) (name : List ℕ) (fetched fetched' : ℕ) → Opens way files name opened
         → HasEnd (call way name files fetched fetched' (S.faults out.old) (S.faults out.new) (S.taken out.old) (S.taken out.new)
         (counted seen (λ d. (⟦<dyn Device as Device>⟧ d.0).faults d.1) devices.old)
@@ -83,6 +107,7 @@ fn play<S: Sink>(alloc: Global, out: &mut S, devices: &mut Devices<'_>, opened: 
         programs,
         detaches,
         mailboxes,
+        strand: _,
     } = opened;
     let Programs { modules, planned } = programs;
     match stage_all(alloc, &modules, planned) {
@@ -104,7 +129,7 @@ fn tell_by_mail<S: Sink>(
     requires few { length staged.items ≤ 16 }
     requires staged { (parts : List Part) × AreStaged parts staged.items }
     ensures end { (way : WayValue) (files : Option Files) (name : List ℕ) (fetched fetched' : ℕ) (play : Play way files name)
-        → AreStaged play.parts staged.entry.items → detaches_in play.whole ≡ detaches.items → play.whole.mailboxes ≡ map mailbox_of mailboxes.items
+        → AreStaged play.parts staged.entry.items → detaches_in play.whole ≡ detaches.items → strand_line play.whole ≡ None → play.whole.mailboxes ≡ map mailbox_of mailboxes.items
         → HasEnd (call way name files fetched fetched' (S.faults out.old) (S.faults out.new) (S.taken out.old) (S.taken out.new)
         (counted seen (λ d. (⟦<dyn Device as Device>⟧ d.0).faults d.1) devices.old)
         (counted seen (λ d. (⟦<dyn Device as Device>⟧ d.0).faults d.1) devices.new)) result }
@@ -145,7 +170,7 @@ fn tell<S: Sink>(
     requires few { length staged.items ≤ 16 }
     requires staged { (parts : List Part) × AreStaged parts staged.items }
     ensures end { (way : WayValue) (files : Option Files) (name : List ℕ) (fetched fetched' : ℕ) (play : Play way files name)
-        → AreStaged play.parts staged.entry.items → detaches_in play.whole ≡ detaches.items → play.whole.mailboxes ≡ []
+        → AreStaged play.parts staged.entry.items → detaches_in play.whole ≡ detaches.items → strand_line play.whole ≡ None → play.whole.mailboxes ≡ []
         → HasEnd (call way name files fetched fetched' (S.faults out.old) (S.faults out.new) (S.taken out.old) (S.taken out.new)
         (counted seen (λ d. (⟦<dyn Device as Device>⟧ d.0).faults d.1) devices.old)
         (counted seen (λ d. (⟦<dyn Device as Device>⟧ d.0).faults d.1) devices.new)) result }
@@ -174,7 +199,7 @@ fn tell_with_mail<S: Sink>(
     requires few { length staged.items ≤ 16 }
     requires staged { (parts : List Part) × AreStaged parts staged.items }
     ensures end { (way : WayValue) (files : Option Files) (name : List ℕ) (fetched fetched' : ℕ) (play : Play way files name)
-        → AreStaged play.parts staged.entry.items → detaches_in play.whole ≡ detaches.items → boxes_of play ≡ mailboxes.items → (play.whole.mailboxes ≡ [] → ⊥)
+        → AreStaged play.parts staged.entry.items → detaches_in play.whole ≡ detaches.items → strand_line play.whole ≡ None → boxes_of play ≡ mailboxes.items → (play.whole.mailboxes ≡ [] → ⊥)
         → HasEnd (call way name files fetched fetched' (S.faults out.old) (S.faults out.new) (S.taken out.old) (S.taken out.new)
         (counted seen (λ d. (⟦<dyn Device as Device>⟧ d.0).faults d.1) devices.old)
         (counted seen (λ d. (⟦<dyn Device as Device>⟧ d.0).faults d.1) devices.new)) result }

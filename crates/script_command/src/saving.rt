@@ -45,7 +45,7 @@ pub struct SaveRequest<'a> {
 
 /// `save SCRIPT E SNAP`: sets a script up as `run` does, plays its first events, or all where there are fewer, and prints their lines; then
 /// writes the snapshot of what stands behind them. Answers the status: 0 done; 3 to 7 for a program's module, by why it is refused; 8 for a
-/// line of the script, one that names a device too; 6 for its length, a seventeenth program or the snapshot's length too; 9 want of memory;
+/// line of the script, one of a device, mailbox or strand too; 6 for its length, a seventeenth program or the snapshot's length too; 9 want of memory;
 /// 10 for a file that could not be read; 11 for the snapshot's, where it could not be written; 12 for a sink that failed.
 pub fn save_script<V: Vault, S: Sink>(
     alloc: Global,
@@ -168,6 +168,7 @@ fn play_to<S: Sink>(
         programs,
         detaches,
         mailboxes,
+        strand: _,
     } = opened;
     drop(mailboxes);
     let Programs { modules, planned } = programs;

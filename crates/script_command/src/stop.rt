@@ -13,7 +13,7 @@ use vault_port::{PutFault, Sink};
 use wa_types::Name;
 
 /// The status of a sink that failed while lines of events were printed.
-const SINK_FAULT: u8 = 12;
+pub(crate) const SINK_FAULT: u8 = 12;
 
 /// Why a call stops before it is done.
 #[derive(Drop)]

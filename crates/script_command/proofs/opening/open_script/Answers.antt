@@ -10,8 +10,9 @@ open_whole-requires g c = read_script _ _ _ c.in-Ok.ensures.script
 pub returns-in-Ok-clause-opened : goal.returns-in-Ok-clause-opened
 returns-in-Ok-clause-opened g c =
     IfOk-weaker c.open_whole.result _ _
-    (λ o h. opens c.in-Ok.whole (read_script _ _ _ c.in-Ok.ensures.script) _ _ c.in-Ok.ensures.script c.args.way _ o c.read_whole.ensures.kept h.1.0 h.1.1 h.0)
-    (opened_both c.open_whole.result _ _ c.open_whole.ensures.opened (opened_both c.open_whole.result _ _ c.open_whole.ensures.detaches c.open_whole.ensures.mailboxes))
+    (λ o h. opens c.in-Ok.whole (read_script _ _ _ c.in-Ok.ensures.script) _ _ c.in-Ok.ensures.script c.args.way _ o c.read_whole.ensures.kept h.1.0 h.1.1.0 h.1.1.1 h.0)
+    (opened_both c.open_whole.result _ _ c.open_whole.ensures.opened (opened_both c.open_whole.result _ _ c.open_whole.ensures.detaches
+    (opened_both c.open_whole.result _ _ c.open_whole.ensures.mailboxes c.open_whole.ensures.strand)))
 
 pub returns-in-Ok-clause-refused : goal.returns-in-Ok-clause-refused
 returns-in-Ok-clause-refused g c =

@@ -1,28 +1,10 @@
--- What is opened is staged, and told.
-use Rattle.std.proofs.Common.{List, refl, sym, subst}
-use Rattle.std.specs.List.{AllZip}
-use Rattle.wa_types.specs.declared.syntax.Module.{Module}
-use Rattle.script_command.specs.Views.{CanStage, parts_of}
-use Rattle.script_command.specs.Ends.{call}
-use Rattle.script_command.proofs.Ending.{out_of_memory_alone}
-use Rattle.script_command.proofs.StagedParts.{few_staged, staged_parts}
+-- What is opened is played, by whether it has strands.
+use Rattle.std.proofs.Common.{sym}
+use Rattle.script_command.proofs.NoStrands.{plainly_ready}
 use Rattle.script_command.proofs.playing.play.Goals as goal
 
-pub stage_all-requires : goal.stage_all-requires
-stage_all-requires g c = subst (λ (ms : List Module). AllZip CanStage ms c.args.opened.programs.planned.items) (sym c.deref.ensures.value) c.requires.plays.each
+pub play_plainly-requires-clause-plays : goal.play_plainly-requires-clause-plays
+play_plainly-requires-clause-plays g c = plainly_ready c.args.opened c.requires.ready c.in-None.is
 
-pub tell_by_mail-requires-clause-few : goal.tell_by_mail-requires-clause-few
-tell_by_mail-requires-clause-few g c = few_staged c.args.opened _ _ c.requires.plays c.in-Ok.ensures
-
-pub returns-in-Ok-clause-end : goal.returns-in-Ok-clause-end
-returns-in-Ok-clause-end g c = λ way files name f f' opens.
-    c.tell_by_mail.ensures.end way files name f f' opens.play
-    (staged_parts c.args.opened.programs.planned.items c.deref.result.now c.args.opened.programs.modules.items opens.play.parts _ opens.parts_are c.deref.ensures.value c.in-Ok.ensures)
-    opens.detaches_are opens.mailboxes_are
-
-pub returns-in-Err-clause-end : goal.returns-in-Err-clause-end
-returns-in-Err-clause-end g c = λ way files name f f' opens.
-    out_of_memory_alone (call way name files f f' _ _ _ _ _ _) c.out_of_memory.result refl c.out_of_memory.ensures.status c.out_of_memory.ensures.printed
-
-pub tell_by_mail-requires-clause-staged : goal.tell_by_mail-requires-clause-staged
-tell_by_mail-requires-clause-staged g c = (parts_of c.deref.result.now c.args.opened.programs.planned.items, c.in-Ok.ensures)
+pub play_strands-requires-clause-some : goal.play_strands-requires-clause-some
+play_strands-requires-clause-some g c = (_, c.in-Some.is)

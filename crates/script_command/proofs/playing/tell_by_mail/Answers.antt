@@ -13,14 +13,14 @@ pub tell_with_mail-requires-clause-staged : goal.tell_with_mail-requires-clause-
 tell_with_mail-requires-clause-staged g c = c.requires.staged
 
 pub returns-then-is_empty-clause-end : goal.returns-then-is_empty-clause-end
-returns-then-is_empty-clause-end g c = λ way files name f f' play staged same boxes.
-    c.tell.ensures.end way files name f f' play staged same (boxes ∙ none_declared c.args.mailboxes c.is_empty.result c.is_empty.ensures c.if-is_empty.true)
+returns-then-is_empty-clause-end g c = λ way files name f f' play staged same unstranded boxes.
+    c.tell.ensures.end way files name f f' play staged same unstranded (boxes ∙ none_declared c.args.mailboxes c.is_empty.result c.is_empty.ensures c.if-is_empty.true)
 
 pub returns-in-Ok-clause-end : goal.returns-in-Ok-clause-end
-returns-in-Ok-clause-end g c = λ way files name f f' play staged same boxes.
-    c.tell_with_mail.ensures.end way files name f f' play staged same (ap box_names boxes ∙ sym c.in-Ok.ensures)
+returns-in-Ok-clause-end g c = λ way files name f f' play staged same unstranded boxes.
+    c.tell_with_mail.ensures.end way files name f f' play staged same unstranded (ap box_names boxes ∙ sym c.in-Ok.ensures)
     (λ none. some_declared c.args.mailboxes c.is_empty.result c.is_empty.ensures c.if-is_empty.false (sym boxes ∙ none))
 
 pub returns-in-Err-clause-end : goal.returns-in-Err-clause-end
-returns-in-Err-clause-end g c = λ way files name f f' play staged same boxes.
+returns-in-Err-clause-end g c = λ way files name f f' play staged same unstranded boxes.
     out_of_memory_alone (call way name files f f' _ _ _ _ _ _) c.out_of_memory.result refl c.out_of_memory.ensures.status c.out_of_memory.ensures.printed

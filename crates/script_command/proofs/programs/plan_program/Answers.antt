@@ -1,8 +1,7 @@
 -- A program over its module, once it keeps the set-up rules.
-use Rattle.std.proofs.Common.{Err, arith, refl, subst, sym}
-use Rattle.std.proofs.lemmas.List.{length-map}
+use Rattle.std.proofs.Common.{Err, refl, subst, sym}
 use Rattle.wa_types.specs.View.{module_of}
-use Rattle.script_reader.specs.Views.{entry_of, program_of}
+use Rattle.script_reader.specs.Views.{program_of}
 use Rattle.script_setup.specs.SetUpRules.{set_up_rules}
 use Rattle.script_model.specs.Script.{breaks}
 use Rattle.script_setup.specs.Views.{Blames}
@@ -13,7 +12,7 @@ use Rattle.script_command.proofs.Openings.{plans_next, memory_blamed, rules_aske
 use Rattle.script_command.proofs.programs.plan_program.Goals as goal
 
 pub set_up_program-requires : goal.set_up_program-requires
-set_up_program-requires c = let few = c.requires.fits.entries in let n = length-map c.args.text.entries.items entry_of in omega (arith, few, n)
+set_up_program-requires c = c.requires.fits.all
 
 pub returns-in-Ok-clause-opened : goal.returns-in-Ok-clause-opened
 returns-in-Ok-clause-opened c = λ files is.

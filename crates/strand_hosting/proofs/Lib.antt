@@ -1,0 +1,7 @@
+pub mod FewStrandLines
+pub mod LinesOfStrands
+pub mod PlansOfStrands
+pub mod StrandTexts
+pub mod StrandTurnCounts
+pub mod StrandsPrinted
+pub mod StrandsSetUp
