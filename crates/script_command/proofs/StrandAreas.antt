@@ -61,23 +61,23 @@ before : (earlier : List Area) (ss : List StrandText) → overlap_line earlier s
 before earlier [] e i j a b ia jb lt le =
     let within = slice_get_within earlier j b (subst (λ (xs : List Area). slice_get xs j ≡ Some b) (append-nil earlier) jb) in
     absurd (omega (arith, within, le))
-before earlier (s ∷ ss) e i j a b ia jb lt le = by (nat_eq j (length earlier)) refl
+before earlier (s ∷ ss) e i j a b ia jb lt le =
+    let more = append_assoc earlier (s.area ∷ []) (areas_of ss) in
+    by (nat_eq j (length earlier)) refl
+    (λ later. before (earlier ++ s.area ∷ []) ss (none_here (shares_byte earlier s.area) s.line (overlap_line (earlier ++ s.area ∷ []) ss) e).1 i j a b
+    (ap (λ (xs : List Area). slice_get xs i) more ∙ ia) (ap (λ (xs : List Area). slice_get xs j) more ∙ jb) lt later)
   where
-    n : (shares_byte earlier s.area ≡ false) × (overlap_line (earlier ++ s.area ∷ []) ss ≡ None)
-    n = none_here (shares_byte earlier s.area) s.line (overlap_line (earlier ++ s.area ∷ []) ss) e
-
-    by : (c : Bool) → nat_eq j (length earlier) ≡ c → AreApart a b
-    by true is =
+    by : (c : Bool) → nat_eq j (length earlier) ≡ c → (length (earlier ++ s.area ∷ []) ≤ j → AreApart a b) → AreApart a b
+    by true is on =
         let here : j ≡ length earlier = eqb-true j (length earlier) is in
         let first : slice_get earlier i ≡ Some a = got_first earlier (s.area ∷ areas_of ss) i a ia (omega (arith, here, lt)) in
         let same : s.area ≡ b = got_seam earlier s.area (areas_of ss) b (subst (λ k. slice_get (earlier ++ s.area ∷ areas_of ss) k ≡ Some b) here jb) in
-        subst (AreApart a) same (none_at (λ (x : Area). overlap x.at x.len s.area.at s.area.len) earlier i a n.0 first)
-    by false is =
+        let none = none_here (shares_byte earlier s.area) s.line (overlap_line (earlier ++ s.area ∷ []) ss) e in
+        subst (AreApart a) same (none_at (λ (x : Area). overlap x.at x.len s.area.at s.area.len) earlier i a none.0 first)
+    by false is on =
         let other = eqb-false j (length earlier) is in
-        let more = append_assoc earlier (s.area ∷ []) (areas_of ss) in
         let len = length-append earlier (s.area ∷ []) in
-        before (earlier ++ s.area ∷ []) ss n.1 i j a b (ap (λ (xs : List Area). slice_get xs i) more ∙ ia) (ap (λ (xs : List Area). slice_get xs j) more ∙ jb) lt
-        (omega (arith, len, other, le))
+        on (omega (arith, len, other, le))
 
 swapped : (a b c d : Bool) → (a && b && c && d) ≡ false → (b && a && d && c) ≡ false
 swapped true true true true e = e

@@ -22,7 +22,7 @@ use Rattle.strand_laws.specs.StrandOriginals.{LooksOff, StrandsMayRun, StrandsOr
 use Rattle.strand_laws.specs.Strands as S
 use Rattle.strand_laws.specs.Strands.{AreApart, Strand, StrandProgram, StrandsCompared, no_strand, plan_of, strand_at}
 use Rattle.strand_laws.specs.StrandsMet.{met_in, met_of}
-use Rattle.strand_laws.specs.StrandWorld.{HeldStrands, Staged, StartsStrands, StrandOriginal, StrandsInWorld, answers_of, joined, strand_actors}
+use Rattle.strand_laws.specs.StrandWorld.{HeldStrands, Staged, StartsStrands, StrandOriginal, StrandsInWorld, answers_of, joined, notes_of, strand_actors}
 use Rattle.strand_laws.specs.Woven.{Told}
 use Rattle.strand_laws.proofs.StrandsMet.{actors_met, met_wide}
 use Rattle.strand_laws.proofs.StrandWorlds.{compared_are_orderly, emitted_are_rewritten, worlds_of_originals}
@@ -78,7 +78,8 @@ each_fits : (w : StrandsInWorld) (ts : List Told) (i : ℕ) (oss : List (List Ou
     → EachFits (map met (strand_actors w ts i oss))
 each_fits w ts i [] fit meets = All-nil (λ (os : List Outcome). All OutcomeFits os)
 each_fits w ts i (os ∷ oss) fit meets =
-    All-cons (λ (us : List Outcome). All OutcomeFits us) _ (map met (strand_actors w ts (suc i) oss)) (one_fits _ (fit i) meets.0) (each_fits w ts (suc i) oss fit meets.1)
+    let a : Actor = record { due = 0; notes = notes_of i ts; outcomes = os; answers = answers_of w i } in
+    All-cons (λ (us : List Outcome). All OutcomeFits us) (met a) (map met (strand_actors w ts (suc i) oss)) (one_fits a (fit i) meets.0) (each_fits w ts (suc i) oss fit meets.1)
 
 met_front : (xs ys : List Actor) → EachMet (xs ++ ys) → EachMet xs
 met_front [] ys h = tt
@@ -165,10 +166,13 @@ module _ (x : Source) (y : Part) (is : IsStrandsRewritten x y) where
 
   -- ---- the original, and the program in its place
 
+  abbrev planned : Option (List Bool) → StrandProgram
+  planned listed = record { source = p; globals = y.given.globals; listed = listed; strands = g.strands }
+
   pub strands_stand_in : StrandsStandIn o (part_strands y)
   strands_stand_in = record {
     rewritten = emitted_are_rewritten m x.settings is.which p is.can is.free is.emitted;
-    program = ap (λ (l : Option (List Bool)). record { source = p; globals = y.given.globals; listed = l; strands = g.strands }) is.listed;
+    program = ap planned is.listed;
     steps = refl;
     answers = refl;
     binds = ap (λ (imports : List Import). bound_imports imports t.binds) is.rewrites.parts.imports;

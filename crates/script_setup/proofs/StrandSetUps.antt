@@ -1,6 +1,6 @@
 -- A program is set up strand by strand, and what it shows lies off the areas of all its strands.
 use Rattle.std.proofs.Common.{◌≡◌, ℕ, suc, List, [], ◌∷◌, ◌++◌, length, map, take, drop, Option, Some, None, Bool, true, false, ◌||◌, not, All, ap, sym, ◌∙◌, refl, subst, if◌then◌else◌}
-use Rattle.std.proofs.Common.{position, Result, Ok, Err}
+use Rattle.std.proofs.Common.{position, Ok}
 use Rattle.std.specs.Prelude.{nat_le}
 use Rattle.std.proofs.Math.Seq.{drop-append_seam, take-append_seam}
 use Rattle.std.specs.List.{list_any}
@@ -11,7 +11,7 @@ use Rattle.std.proofs.lemmas.List.Folds.{list_any-append}
 use Rattle.wa_types.specs.Syntax.{Module}
 use Rattle.wa_types.specs.Modules.{func_imports}
 use Rattle.wa_model.specs.declared.answers.Area.{Area}
-use Rattle.script_model.specs.Script.{EntryText, ProgramText, ShowText, StrandText}
+use Rattle.script_model.specs.Script.{EntryText, ShowText, StrandText}
 use Rattle.script_model.specs.ScriptText.{AreaText}
 use Rattle.host_setup.specs.SetUp.{Fault, NamedEntry, all_told, are_args, area_bad, arg_types, args_fault, calls_fault, entries_fault, entry_func, entry_funcs, entry_is_import, entry_missing, fault_at, first_false, first_fault, have_args}
 use Rattle.host_setup.specs.SetUp.{is_area_in, is_imported, is_there, least_pages, module_fault, needed, no_export, set_up, unless_fault}

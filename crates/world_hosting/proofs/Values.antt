@@ -1,6 +1,6 @@
 -- Values of a program's globals are in range, and the memory that it shows lies off its area.
-use Rattle.std.proofs.Common.{◌≡◌, ℕ, ◌+◌, List, [], ◌∷◌, length, map, nat_lt, Option, Some, None, Bool, true, false}
-use Rattle.std.proofs.Common.{cond, ◌&&◌, refl, sym, ap, ◌∙◌, subst, arith, All, position, Result, Ok, Err, if◌then◌else◌, ltb-false}
+use Rattle.std.proofs.Common.{◌≡◌, ℕ, ◌+◌, List, [], ◌∷◌, map, nat_lt, Option, Some, None, Bool, true, false}
+use Rattle.std.proofs.Common.{◌&&◌, refl, sym, ap, ◌∙◌, subst, arith, All, position, if◌then◌else◌}
 use Rattle.std.specs.List.{cons_option}
 use Rattle.std.specs.Option.{option_or, unwrap_or}
 use Rattle.std.specs.Str.{bytes_eq}
@@ -13,12 +13,11 @@ use Rattle.wa_types.specs.Encoding.{same_type}
 use Rattle.wa_types.specs.Modules.{imported_global}
 use Rattle.wa_types.specs.Pausing.{joined_name}
 use Rattle.wa_types.specs.Sizes.{value_fits}
-use Rattle.wa_types.specs.Syntax.{Module}
 use Rattle.wa_types.specs.Typing.{GlobalType, type_of}
 use Rattle.wa_ops.specs.Operate.{are_of}
 use Rattle.wa_model.specs.declared.answers.Area.{Area}
 use Rattle.run_theory.specs.Fitting.{types_of}
-use Rattle.script_model.specs.Script.{GlobalText, ProgramText, ShowText}
+use Rattle.script_model.specs.Script.{GlobalText, ShowText}
 use Rattle.wa_model.specs.Step.{zero_of}
 use Rattle.script_setup.specs.SetUpRules.{global_values, last_value, overlaps, value_or_zero}
 use Rattle.script_setup.proofs.FirstPlaces.{none_passes}
