@@ -1,6 +1,6 @@
 -- A program is set up strand by strand, and what it shows lies off the areas of all its strands.
 use Rattle.std.proofs.Common.{◌≡◌, ℕ, suc, List, [], ◌∷◌, ◌++◌, length, map, take, drop, Option, Some, None, Bool, true, false, ◌||◌, not, All, ap, sym, ◌∙◌, refl, subst, if◌then◌else◌}
-use Rattle.std.proofs.Common.{position, Result, Ok, Err}
+use Rattle.std.proofs.Common.{position, Ok}
 use Rattle.std.proofs.Math.Seq.{drop-append_seam, take-append_seam}
 use Rattle.std.specs.List.{list_any}
 use Rattle.std.specs.Option.{is_none, option_or, unwrap_or}
@@ -10,7 +10,7 @@ use Rattle.std.proofs.lemmas.List.Folds.{list_any-append}
 use Rattle.wa_types.specs.Syntax.{Module}
 use Rattle.wa_types.specs.Modules.{func_imports}
 use Rattle.wa_model.specs.declared.answers.Area.{Area}
-use Rattle.script_model.specs.Script.{EntryText, ProgramText, ShowText, StrandText}
+use Rattle.script_model.specs.Script.{EntryText, ShowText, StrandText}
 use Rattle.script_model.specs.ScriptText.{AreaText}
 use Rattle.host_setup.specs.SetUp.{Fault, NamedEntry, all_told, are_args, area_bad, arg_types, args_fault, calls_fault, entries_fault, entry_func, entry_funcs, entry_is_import, entry_missing, fault_at, first_false, first_fault, have_args}
 use Rattle.host_setup.specs.SetUp.{is_area_in, is_imported, is_there, least_pages, module_fault, needed, no_export, set_up, unless_fault}
@@ -113,8 +113,7 @@ module _ (p : Module) where
   -- the first so many are those of the first strand
   told_first : (es more : List EntryText) (funcs : List ℕ) → told (es ++ more) ≡ funcs → (told es ≡ take (length es) funcs) × (told more ≡ drop (length es) funcs)
   told_first es more funcs e =
-      let whole : told es ++ told more ≡ funcs = sym (told_parted es more) ∙ e in
-      (
+      let whole : told es ++ told more ≡ funcs = sym (told_parted es more) ∙ e in (
         sym (take-append_seam (told es) (told more)) ∙ ap (λ n. take n (told es ++ told more)) (told_many es) ∙ ap (take (length es)) whole,
         sym (drop-append_seam (told es) (told more)) ∙ ap (λ n. drop n (told es ++ told more)) (told_many es) ∙ ap (drop (length es)) whole,
       )
@@ -140,8 +139,7 @@ module _ (p : Module) where
     each a es [] funcs good all are = set_up_of_parts a.area (map named_entry es) funcs (record { area = good; exports = exports; called = all; funcs_are = are })
     each a es (s ∷ ss) funcs good all are =
         let parted = called_parted (map named_entry es) (map named_entry (entries_then s.entries ss)) (subst AllCalled (map-append named_entry es (entries_then s.entries ss)) all) in
-        let first = told_first es (entries_then s.entries ss) funcs are in
-        (
+        let first = told_first es (entries_then s.entries ss) funcs are in (
           set_up_of_parts a.area (map named_entry es) (take (length es) funcs) (record { area = asked_good a (s ∷ ss) good; exports = exports; called = parted.0; funcs_are = first.0 }),
           each (strand_area s) s.entries ss (drop (length es) funcs) (asked_more a s ss good) parted.1 first.1,
         )

@@ -1,11 +1,11 @@
 -- Programs without further strands: what the set-up rules ask of their lines, and what such a program is given.
-use Rattle.std.proofs.Common.{◌≡◌, ℕ, List, [], ◌∷◌, map, Option, None, Bool, true, position, Result, Ok, ap, sym, ◌∙◌, refl}
+use Rattle.std.proofs.Common.{◌≡◌, ℕ, List, [], map, None, Bool, true, position, Ok, ap, sym, ◌∙◌, refl}
 use Rattle.wa_types.specs.Syntax.{Module}
-use Rattle.host_setup.specs.SetUp.{Fault, least_pages, set_up}
-use Rattle.script_model.specs.Script.{EntryText, ProgramText, ShowText, StrandText}
+use Rattle.host_setup.specs.SetUp.{least_pages, set_up}
+use Rattle.script_model.specs.Script.{EntryText, ProgramText, StrandText}
 use Rattle.script_model.specs.ScriptText.{AreaText}
 use Rattle.script_setup.specs.SetUpRules.{SetUp, asked_area, asked_from, bad_show, entries_in, entries_then, named_entry, overlaps, overlaps_one, own_area, set_up_rules}
-use Rattle.script_setup.proofs.GlobalTypes.{Given, given_by_rules}
+use Rattle.script_setup.proofs.GlobalTypes.{given_by_rules}
 use Rattle.script_setup.proofs.Told.{position_same}
 
 module _ (t : ProgramText) (alone : t.strands ≡ []) where

@@ -35,11 +35,7 @@ pub fn program_names(
 }
 
 /// The same of a further strand.
-pub fn strand_names(
-    alloc: Global,
-    module: &Module,
-    text: &StrandText,
-) -> Result<Names, AllocError>
+pub fn strand_names(alloc: Global, module: &Module, text: &StrandText) -> Result<Names, AllocError>
     ensures { IfOk result (λ names. names_of names ≡ strand_names (module_of «module».now) (strand_of text.now)) }
 {
     let imports = import_names(alloc, &module.imports)?;
