@@ -1,5 +1,5 @@
 -- How many lines programs with strands tell: each event tells one note at least, and with it at most as many lines of shows as there are shows.
-use Rattle.std.proofs.Common.{arith, ◌≡◌, ◌≤◌, ◌<◌, ℕ, zero, suc, ◌+◌, ◌*◌, ◌^◌, List, [], ◌∷◌, ◌++◌, length, length-append, map, Option, Some, None, Bool, true, false, cond, MatchBool, slice_get, slice_set, refl, sym, ap, ◌∙◌}
+use Rattle.std.proofs.Common.{arith, ◌≡◌, ◌≤◌, ◌<◌, ℕ, zero, suc, ◌+◌, ◌*◌, ◌^◌, List, [], ◌∷◌, ◌++◌, length, length-append, map, Option, Some, None, Bool, true, false, cond, MatchBool, slice_get, slice_set, refl, ap, ◌∙◌}
 use Rattle.std.specs.Prelude.{nat_eq}
 use Rattle.std.specs.List.{cons_option}
 use Rattle.std.proofs.lemmas.List.{length-map}
@@ -7,13 +7,13 @@ use Rattle.std.proofs.lemmas.Option.{slice_get_within}
 use Rattle.wa_model.specs.declared.answers.Detach.{Detach}
 use Rattle.wa_model.specs.Blocking.{Note, events_of}
 use Rattle.wa_model.specs.Outside.{Event, answered, called, ended, parked, paused, returned, shown}
-use Rattle.world_model.specs.World.{Device, Look, ends_turn, events_with_looks, looks_after}
+use Rattle.world_model.specs.World.{Device, Look, bytes_shown, ends_turn, events_with_looks, looks_after}
 use Rattle.world_laws.proofs.Places.{item}
 use Rattle.event_order.specs.declared.shows.Show.{Show}
 use Rattle.event_order.specs.Looks.{look_of, looks_of}
 use Rattle.strand_laws.specs.StrandNotes.{TellsOnStrands}
 use Rattle.strand_laws.specs.StrandWorld.{StrandLine, StrandsInWorld, looks_if}
-use Rattle.strand_laws.specs.ToldStrands.{EndsOnce, ProgramTeller, TellsStrandTurn, TellsStrands, having_told, line_of, met_and, starting, told_on}
+use Rattle.strand_laws.specs.ToldStrands.{EndsOnce, ProgramTeller, TellsStrandTurn, TellsStrands, having_told, line_of, met_and, told_on}
 use Rattle.strand_laws.specs.Woven.{told_by}
 use Rattle.strand_laws.proofs.StoryLengths.{most_told, story_length}
 use Rattle.strand_host.specs.declared.host.StrandHost.{StrandHost}
@@ -88,7 +88,7 @@ after_few looks x (answered c) = omega arith
 after_few looks x (paused c d) = omega arith
 after_few looks x (parked c) = omega arith
 after_few looks x (returned c d) = omega arith
-after_few looks x (ended how) = let long = length-map looks _ in omega (arith, long)
+after_few looks x (ended how) = let long = length-map looks (λ (k : Look). shown k.at (bytes_shown x.store.memory k)) in omega (arith, long)
 after_few looks x (shown c d) = omega arith
 
 -- a turn has its notes, and what is shown once
@@ -96,18 +96,18 @@ turn_few : (looks : List Look) (turn : List Note) → EndsOnce turn → length (
 turn_few looks [] h = absurd h
 turn_few looks (x ∷ xs) h =
     let sum = length-append (x.event ∷ looks_after looks x x.event) (events_with_looks looks xs) in
-    by (ends_turn x.event) refl h sum
+    by (ends_turn x.event) refl h (λ once. turn_few looks xs once) sum
   where
-    by : (b : Bool) → ends_turn x.event ≡ b → MatchBool b (xs ≡ []) (EndsOnce xs)
+    by : (b : Bool) → ends_turn x.event ≡ b → MatchBool b (xs ≡ []) (EndsOnce xs) → (EndsOnce xs → length (events_with_looks looks xs) ≤ length xs + length looks)
         → length (events_with_looks looks (x ∷ xs)) ≡ suc (length (looks_after looks x x.event)) + length (events_with_looks looks xs)
         → length (events_with_looks looks (x ∷ xs)) ≤ suc (length xs) + length looks
-    by true e none sum =
+    by true e none on sum =
         let few = after_few looks x x.event in
         let rest = ap (λ (l : List Note). length (events_with_looks looks l)) none in
         omega (arith, few, rest, sum)
-    by false e once sum =
+    by false e once on sum =
         let none = after_none looks x x.event e in
-        let rest = turn_few looks xs once in
+        let rest = on once in
         omega (arith, none, rest, sum)
 
 some_note : (xs : List Note) → EndsOnce xs → 0 < length xs

@@ -1,10 +1,9 @@
 -- Each line that is told is one of a strand that its program has.
-use Rattle.std.proofs.Common.{arith, ◌≡◌, ◌<◌, ℕ, zero, suc, List, [], ◌∷◌, ◌++◌, length, map, Some, refl, sym, ap, ◌∙◌, subst}
+use Rattle.std.proofs.Common.{arith, ◌≡◌, ◌<◌, ℕ, zero, suc, List, [], ◌∷◌, ◌++◌, length, map, Some, sym, ap, ◌∙◌, subst}
 use Rattle.std.specs.Prelude.{slice_get}
 use Rattle.std.specs.Global.{Vec}
-use Rattle.std.specs.Option.{option_map}
 use Rattle.std.proofs.lemmas.List.{length-map}
-use Rattle.std.proofs.lemmas.Option.{same_Some, slice_get-map, slice_get_within}
+use Rattle.std.proofs.lemmas.Option.{slice_get_within}
 use Rattle.run_theory.specs.Growth.{Each}
 use Rattle.wa_model.specs.declared.answers.Detach.{Detach}
 use Rattle.wa_model.specs.Outside.{Event, answered, called, ended, parked, paused, returned, shown}
@@ -26,7 +25,7 @@ use Rattle.strand_host.specs.StrandHosts.{StrandHostTold}
 use Rattle.strand_host.specs.StrandPrograms.{memory_of}
 use Rattle.strand_host.specs.StrandStanding.{StrandsStandAt, hosted_of, shown_lines}
 use Rattle.strand_hosting.specs.StrandParts.{BeginsStrands, HasNames, NamesEach, names_in}
-use Rattle.strand_hosting.specs.StrandWorldsTold.{NamedStrands, all_strand_names, strand_worlds}
+use Rattle.strand_hosting.specs.StrandWorldsTold.{NamedStrands, strand_worlds}
 
 -- ---- lists
 

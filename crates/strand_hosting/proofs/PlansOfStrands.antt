@@ -1,7 +1,5 @@
 -- A plan whose strands can be set up.
-use Rattle.std.proofs.Common.{◌≡◌, ℕ, zero, suc, List, [], ◌∷◌, length, map, Option, Some, None, Result, Ok, Err, refl, sym, ap, ◌∙◌, subst}
-use Rattle.std.specs.Global.{Vec}
-use Rattle.std.proofs.lemmas.List.{length-map}
+use Rattle.std.proofs.Common.{◌≡◌, ℕ, zero, suc, List, [], ◌∷◌, length, Option, Some, None, Result, Ok, refl, sym, ap, ◌∙◌, subst}
 use Rattle.wa_types.specs.Syntax.{Module}
 use Rattle.wa_model.specs.declared.answers.Area.{Area}
 use Rattle.world_model.specs.World.{Look}
@@ -10,7 +8,6 @@ use Rattle.host_setup.specs.Views.{Blames}
 use Rattle.host_setup.specs.declared.faults.SetupFault.{SetupFault}
 use Rattle.host_setup.specs.declared.faults.SetupFault.TheVariants as F
 use Rattle.pause_host.specs.Programs.{BindsAs, source_of}
-use Rattle.strand_laws.specs.Strands.{Strand}
 use Rattle.strand_laws.specs.ToldStrands.{starting}
 use Rattle.strand_host.specs.declared.plan.StrandPart.{StrandPart}
 use Rattle.strand_host.specs.declared.plan.StrandPlan.{StrandPlan}

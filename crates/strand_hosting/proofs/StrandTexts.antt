@@ -1,6 +1,6 @@
 -- Texts of lines of strands, one behind others, and the names of strands.
-use Rattle.std.proofs.Common.{◌≡◌, ℕ, ◌<◌, List, [], ◌∷◌, ◌++◌, length, map, Option, Some, None, refl, sym, ap, ◌∙◌, append_assoc, append-nil, arith}
-use Rattle.std.proofs.Common.{get_or, nat_lt, true}
+use Rattle.std.proofs.Common.{◌≡◌, ℕ, ◌<◌, List, [], ◌∷◌, ◌++◌, length, map, Option, refl, sym, ap, ◌∙◌, append_assoc, append-nil, arith}
+use Rattle.std.proofs.Common.{get_or, nat_lt, false, true}
 use Rattle.std.specs.Prelude.{codes, slice_get}
 use Rattle.std.specs.Fmt.{decimal}
 use Rattle.std.specs.Global.{Vec}
@@ -52,6 +52,9 @@ own_long names i k own within is h xs e =
     let here = ap length e in
     let less = h.2 in
     omega (arith, long, here, less)
+
+pub no_place : false ≡ true → ⊥
+no_place e = cc
 
 -- a program whose strand has names is there
 pub program_within : (names : List (Vec Names)) (i k : ℕ) → HasNames names i k → i < length names

@@ -1,5 +1,5 @@
 -- The lines of several programs with strands, as they are being told and printed.
-use Rattle.std.proofs.Common.{◌≡◌, inl, inr, ◌≤◌, ℕ, suc, List, [], ◌∷◌, ◌++◌, length, length-append, map, Option, Some, None, Result, Ok, Err, refl, sym, ap, ◌∙◌, subst, arith, append-nil, add_assoc, ◌+◌}
+use Rattle.std.proofs.Common.{◌≡◌, inl, inr, ◌≤◌, ℕ, List, [], ◌∷◌, ◌++◌, length, length-append, map, Option, Some, None, Result, Ok, Err, refl, sym, ap, ◌∙◌, subst, arith, append-nil, add_assoc, ◌+◌}
 use Rattle.std.specs.Prelude.{IsErr, MatchOption, OnErr, OnOk}
 use Rattle.std.specs.Global.{Vec}
 use Rattle.std.specs.Result.{IfErr}
@@ -146,7 +146,7 @@ module _ (programs : List NamedStrands) (detaches : List Detach) (cs : List Coun
   -- the devices are those that the lines left, or that are left when the next event begins
   are_begun : (h : StrandHost) (now : List Counted) (t : HasStrandsTold h now) (es : List Counted) (fault : PutFault) → IsLeft fault h.turns.begun detaches now es
       → (before behind : List StrandLine) → length behind ≤ 1 → t.lines ≡ before ++ behind → AreStrandsBegun fault programs detaches cs es (length (begun before)) (begun t.lines)
-  are_begun h now t es fault left before behind one parted =
+  are_begun h now t es why left before behind one parted =
       let b = told_lines_begin gs detaches ds (devices_of now) t.lines h t.host in
       record {
         lines = t.lines;

@@ -1,18 +1,16 @@
 -- Programs with strands that are set up can be hosted.
 use Rattle.std.proofs.Common.{◌≡◌, ℕ, zero, suc, ◌+◌, ◌<◌, List, [], ◌∷◌, ◌++◌, length, map, Option, Some, None, Bool, true, false, if◌then◌else◌, nat_eq, slice_get, get_or, take, All, append_assoc, refl, sym, ap, ◌∙◌, subst, arith}
-use Rattle.std.specs.Global.{Vec}
 use Rattle.std.specs.List.{cons_option}
 use Rattle.std.proofs.lemmas.Bool.Decides.{nat_tests}
 use Rattle.std.proofs.lemmas.List.{append-nil, length-map, map_more}
 use Rattle.std.proofs.lemmas.List.Elements.{All-cons, All-nil, filter_map-append}
 use Rattle.wa_model.specs.declared.answers.Detach.{Detach}
-use Rattle.world_laws.proofs.Places.{item, of_map, zip_both}
+use Rattle.world_laws.proofs.Places.{of_map, zip_both}
 use Rattle.world_model.specs.World.{Device, Look}
 use Rattle.event_order.specs.declared.shows.Show.{Show}
 use Rattle.event_order.specs.Looks.{looks_of}
 use Rattle.event_order.specs.Looks as E
 use Rattle.script_model.specs.Transcript as T
-use Rattle.transcript.specs.declared.events.Names.{Names}
 use Rattle.strand_laws.specs.StrandWorld.{ProtocolStrandWorld, StrandLine, StrandsInWorld}
 use Rattle.strand_laws.specs.ToldStrands.{starting}
 use Rattle.strand_laws.specs.Weaving.{HaveStrands}

@@ -26,8 +26,8 @@ pub(crate) fn put_strand_line<S: Sink>(
     line: StrandLine,
 ) -> Result<(), PutFault>
     requires { HasNames names.now line.program line.strand }
-    ensures printed { OnOk result (Becomes (S.taken out.old) (S.taken out.new) (Appends (named_strand_line (map names_in names.now) (strand_line_of line.entry)))) }
-    ensures less { OnErr result (Becomes (S.taken out.old) (S.taken out.new) (AppendsLess (named_strand_line (map names_in names.now) (strand_line_of line.entry)))) }
+    ensures printed { OnOk result (Becomes (S.taken out.old) (S.taken out.new) (Appends (named_strand_line (map names_in names.now) (strand_line_of line)))) }
+    ensures less { OnErr result (Becomes (S.taken out.old) (S.taken out.new) (AppendsLess (named_strand_line (map names_in names.now) (strand_line_of line)))) }
     ensures fault { IsErrOf result PutFault.Fault → FailsOnce (S.faults out.old) (S.faults out.new) }
     ensures stays { result ≢ Err PutFault.Fault → S.faults out.new ≡ S.faults out.old }
     ensures faults { S.faults out.old ≤ S.faults out.new }
@@ -47,9 +47,9 @@ fn put_line_by<S: Sink>(
 ) -> Result<(), PutFault>
     requires { line.strand < length names.now }
     ensures printed { OnOk result (Becomes (S.taken out.old) (S.taken out.new)
-        (Appends (strand_event_line (names_at (map names_of names.now) line.entry.strand) (program_line (strand_line_of line.entry)) line.entry.strand))) }
+        (Appends (strand_event_line (names_at (map names_of names.now) line.strand) (program_line (strand_line_of line)) line.strand))) }
     ensures less { OnErr result (Becomes (S.taken out.old) (S.taken out.new)
-        (AppendsLess (strand_event_line (names_at (map names_of names.now) line.entry.strand) (program_line (strand_line_of line.entry)) line.entry.strand))) }
+        (AppendsLess (strand_event_line (names_at (map names_of names.now) line.strand) (program_line (strand_line_of line)) line.strand))) }
     ensures fault { IsErrOf result PutFault.Fault → FailsOnce (S.faults out.old) (S.faults out.new) }
     ensures stays { result ≢ Err PutFault.Fault → S.faults out.new ≡ S.faults out.old }
     ensures faults { S.faults out.old ≤ S.faults out.new }
@@ -68,9 +68,9 @@ fn put_own_line<S: Sink>(
     line: StrandLine,
 ) -> Result<(), PutFault>
     ensures printed { OnOk result (Becomes (S.taken out.old) (S.taken out.new)
-        (Appends (strand_event_line (names_of names.now) (program_line (strand_line_of line.entry)) line.entry.strand))) }
+        (Appends (strand_event_line (names_of names.now) (program_line (strand_line_of line)) line.strand))) }
     ensures less { OnErr result (Becomes (S.taken out.old) (S.taken out.new)
-        (AppendsLess (strand_event_line (names_of names.now) (program_line (strand_line_of line.entry)) line.entry.strand))) }
+        (AppendsLess (strand_event_line (names_of names.now) (program_line (strand_line_of line)) line.strand))) }
     ensures fault { IsErrOf result PutFault.Fault → FailsOnce (S.faults out.old) (S.faults out.new) }
     ensures stays { result ≢ Err PutFault.Fault → S.faults out.new ≡ S.faults out.old }
     ensures faults { S.faults out.old ≤ S.faults out.new }

@@ -38,7 +38,7 @@ pub fn stage_strand_plan<'m>(
     requires sets_up { CanBeSetUp plan }
     requires named { length names.items ≡ length (parts_of plan) }
     ensures { (funcs : List (List ℕ)) (binds : List (Option (List ℕ))) → AllSetUp (source_of plan.entry.plan) (parts_of plan.entry) funcs → BindsAs plan.entry.plan binds
-        → IfOk result (IsStrandsStaged (record { world = world_strands plan.entry funcs (map range_look shows.entry.items) binds; names = map names_of names.entry.items })) }
+        → IfOk result (IsStrandsStaged (record { world = world_strands plan.entry funcs (map range_look shows.items) binds; names = map names_of names.items })) }
 {
     match StrandProgram::new(alloc, plan) {
         Ok(program) => Ok(StagedStrands {

@@ -1,4 +1,5 @@
-use Rattle.std.proofs.Common.{ap, map, subst, List, ◌∙◌}
+use Rattle.std.proofs.Common.{ap, length, map, subst, List, ◌∙◌}
+use Rattle.std.proofs.lemmas.Bool.{lt-ltb}
 use Rattle.std.specs.Prelude.{OnErr, OnOk}
 use Rattle.vault_port.specs.Taken.{Appends, AppendsLess}
 use Rattle.vault_port.specs.Told.{Becomes}
@@ -7,7 +8,7 @@ use Rattle.transcript.specs.Printing.{names_of}
 use Rattle.transcript.specs.StrandLines.{strand_event_line}
 use Rattle.strand_host.specs.StrandCalls.{strand_line_of}
 use Rattle.strand_hosting.specs.StrandTranscripts.{program_line}
-use Rattle.strand_hosting.proofs.StrandTexts.{own_long, program_within, strands_named}
+use Rattle.strand_hosting.proofs.StrandTexts.{no_place, own_long, program_within, strands_named}
 use Rattle.strand_hosting.proofs.strand_printing.put_strand_line.Goals as goal
 
 pub returns-clause-printed : goal.returns-clause-printed
@@ -27,4 +28,5 @@ put_line_by-requires g c =
     own_long c.args.names.now c.args.line.program c.args.line.strand c.in-Some.own.now c.in-Some.ensures.lookup.0 c.in-Some.ensures.lookup.1 c.requires _ c.deref.ensures.value
 
 pub unreachable-requires : goal.unreachable-requires
-unreachable-requires g c = ?
+unreachable-requires g c =
+    no_place (c.in-None.ensures.lookup.0 ∙ lt-ltb c.args.line.program (length c.args.names.now) (program_within c.args.names.now c.args.line.program c.args.line.strand c.requires))

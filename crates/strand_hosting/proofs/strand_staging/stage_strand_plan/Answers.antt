@@ -1,4 +1,4 @@
-use Rattle.std.proofs.Common.{arith, refl, ◌∙◌, map, sym}
+use Rattle.std.proofs.Common.{refl, ◌∙◌, map, sym}
 use Rattle.std.proofs.lemmas.List.{length-map}
 use Rattle.transcript.specs.Printing.{names_of}
 use Rattle.strand_hosting.specs.StrandStages.{range_look}

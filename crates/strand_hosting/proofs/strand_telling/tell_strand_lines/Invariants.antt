@@ -1,4 +1,4 @@
-use Rattle.std.proofs.Common.{◌≡◌, ◌-◌, ℕ, List, length}
+use Rattle.std.proofs.Common.{◌≡◌, ◌-◌, List, length}
 use Rattle.wa_model.specs.declared.answers.Detach.{Detach}
 use Rattle.strand_host.specs.StrandStanding.{AreInRange}
 use Rattle.strand_hosting.specs.HostedCopies.{counted}
