@@ -1,5 +1,5 @@
 -- What is told of programs with strands over rewritten modules is told of their originals.
-use Rattle.std.proofs.Common.{arith, ◌≡◌, ◌<◌, ℕ, zero, suc, List, [], ◌∷◌, ◌++◌, length, map, take, drop, Option, Some, None, Bool, true, false, All, Ok, refl, sym, ap, ◌∙◌, subst}
+use Rattle.std.proofs.Common.{arith, ◌≡◌, ◌<◌, ℕ, zero, suc, List, [], ◌∷◌, ◌++◌, length, map, take, drop, Option, Some, Bool, true, false, All, Ok, refl, sym, ap, ◌∙◌, subst}
 use Rattle.std.specs.Prelude.{◌+◌, nat_lt, slice_get}
 use Rattle.std.specs.Option.{option_map, unwrap_or}
 use Rattle.std.specs.List.{AllZip}
@@ -14,20 +14,20 @@ use Rattle.wa_model.specs.declared.answers.Area.{Area}
 use Rattle.wa_model.specs.Blocking.{overlap}
 use Rattle.wa_model.specs.Outside.{AnswerLine}
 use Rattle.wa_model.specs.Plan.{AnswerFits, AreLawful, Entry, EntryFits, Fits, Outcome, OutcomeFits}
-use Rattle.world_model.specs.World.{Actor, Look}
+use Rattle.world_model.specs.World.{Actor}
 use Rattle.world_laws.specs.Originals.{met, new_calls}
 use Rattle.world_laws.proofs.Meeting.{AnswersFit, EachMet, Met, events_met}
 use Rattle.world_laws.proofs.Worlds.{take_first}
 use Rattle.strand_laws.specs.StrandOriginals.{LooksOff, StrandsMayRun, StrandsOrderly, StrandsStandIn}
 use Rattle.strand_laws.specs.Strands as S
 use Rattle.strand_laws.specs.Strands.{AreApart, Strand, StrandProgram, StrandsCompared, no_strand, plan_of, strand_at}
-use Rattle.strand_laws.specs.StrandsMet.{met_in, met_of}
+use Rattle.strand_laws.specs.StrandsMet.{met_in}
 use Rattle.strand_laws.specs.StrandWorld.{HeldStrands, Staged, StartsStrands, StrandOriginal, StrandsInWorld, answers_of, joined, notes_of, strand_actors}
 use Rattle.strand_laws.specs.Woven.{Told}
 use Rattle.strand_laws.proofs.StrandsMet.{actors_met, met_wide}
 use Rattle.strand_laws.proofs.StrandWorlds.{compared_are_orderly, emitted_are_rewritten, worlds_of_originals}
 use Rattle.pause_host.specs.Settings.{calls_of}
-use Rattle.host_setup.specs.SetUp.{NamedEntry, set_up}
+use Rattle.host_setup.specs.SetUp.{set_up}
 use Rattle.script_model.specs.Script.{EntryText, ProgramText, ShowText, StrandText}
 use Rattle.script_setup.specs.Bindings.{bound_imports}
 use Rattle.script_setup.specs.SetUpRules.{named_entry, overlaps}
@@ -39,7 +39,7 @@ use Rattle.world_hosting.specs.Worlds.{HasStrandRanges, Part, look_at}
 use Rattle.world_hosting.proofs.Originals.{set_up_fits, values_lawful}
 use Rattle.world_hosting.proofs.Values.{off}
 use Rattle.script_command.specs.StrandOriginals.{IsStrandsRewritten, StrandsStayOff, StrandsToldOfOriginals, strand_original_for, strand_originals_for}
-use Rattle.script_command.specs.StrandWorlds.{answers_in, part_strands, strand_of, strands_from}
+use Rattle.script_command.specs.StrandWorlds.{part_strands, strand_of, strands_from}
 use Rattle.script_command.proofs.StrandAreas.{areas_of, two_apart}
 
 -- ---- the strands of a program
@@ -50,7 +50,7 @@ some_strand area es (s ∷ ss) funcs = omega arith
 
 areas_are : (area : Area) (es : List EntryText) (ss : List StrandText) (funcs : List ℕ) → map (λ (x : Strand). x.area) (strands_from area es ss funcs) ≡ area ∷ areas_of ss
 areas_are area es [] funcs = refl
-areas_are area es (s ∷ ss) funcs = ap (λ (as : List Area). area ∷ as) (areas_are s.area s.entries ss (drop (length es) funcs))
+areas_are area es (s ∷ ss) funcs = ap (λ (areas : List Area). area ∷ areas) (areas_are s.area s.entries ss (drop (length es) funcs))
 
 -- the entries take the first so many functions
 calls_taken : (es : List EntryText) (funcs : List ℕ) → calls_of (map named_entry es) (take (length es) funcs) ≡ calls_of (map named_entry es) funcs
@@ -143,7 +143,7 @@ module _ (x : Source) (y : Part) (is : IsStrandsRewritten x y) where
   area_at : (i : ℕ) → i < length g.strands → slice_get (t.area ∷ areas_of t.strands) i ≡ Some (strand_at g i).area
   area_at i lt =
       let s = got g.strands i lt in
-      ap (λ (as : List Area). slice_get as i) (sym areas_same) ∙ slice_get-map (λ (z : Strand). z.area) g.strands i ∙ ap (option_map (λ (z : Strand). z.area)) s.1
+      ap (λ (areas : List Area). slice_get areas i) (sym areas_same) ∙ slice_get-map (λ (z : Strand). z.area) g.strands i ∙ ap (option_map (λ (z : Strand). z.area)) s.1
       ∙ sym (ap (λ (q : Option Strand). Some (unwrap_or q no_strand).area) s.1)
 
   apart : (i j : ℕ) → i < length g.strands → j < length g.strands → (i ≡ j → ⊥) → AreApart (strand_at g i).area (strand_at g j).area
@@ -151,12 +151,12 @@ module _ (x : Source) (y : Part) (is : IsStrandsRewritten x y) where
 
   -- ---- what is shown
 
-  look_off : (s : ShowText) (as : List Area) → All (λ (a : Area). overlaps a s ≡ false) as → LooksOff as (look_at s)
+  look_off : (s : ShowText) (areas : List Area) → All (λ (a : Area). overlaps a s ≡ false) areas → LooksOff areas (look_at s)
   look_off s [] h = All-nil (λ (a : Area). overlap s.at s.len a.at a.len ≡ false)
-  look_off s (a ∷ as) h =
-      All-cons (λ (b : Area). overlap s.at s.len b.at b.len ≡ false) a as
-      (off (nat_lt 0 s.len) (nat_lt 0 a.len) (nat_lt s.at (a.at + a.len)) (nat_lt a.at (s.at + s.len)) (All-head (λ (b : Area). overlaps b s ≡ false) a as h))
-      (look_off s as (All-tail (λ (b : Area). overlaps b s ≡ false) a as h))
+  look_off s (a ∷ areas) h =
+      All-cons (λ (b : Area). overlap s.at s.len b.at b.len ≡ false) a areas
+      (off (nat_lt 0 s.len) (nat_lt 0 a.len) (nat_lt s.at (a.at + a.len)) (nat_lt a.at (s.at + s.len)) (All-head (λ (b : Area). overlaps b s ≡ false) a areas h))
+      (look_off s areas (All-tail (λ (b : Area). overlaps b s ≡ false) a areas h))
 
   looks_off : (shows : List ShowText) → All (OffAreas t.area t.strands) shows → All (LooksOff (t.area ∷ areas_of t.strands)) (map look_at shows)
   looks_off [] h = All-nil (LooksOff (t.area ∷ areas_of t.strands))
@@ -182,7 +182,7 @@ module _ (x : Source) (y : Part) (is : IsStrandsRewritten x y) where
   pub strands_may_run : StrandsMayRun o
   strands_may_run = record {
     well_formed = is.well_formed;
-    looks = subst (λ (as : List Area). All (LooksOff as) o.program.looks) (sym areas_same) (looks_off t.shows (shown_off t.area t.strands t.shows given.shows));
+    looks = subst (λ (areas : List Area). All (LooksOff areas) o.program.looks) (sym areas_same) (looks_off t.shows (shown_off t.area t.strands t.shows given.shows));
   }
 
   -- ---- its outcomes
@@ -199,12 +199,12 @@ module _ (x : Source) (y : Part) (is : IsStrandsRewritten x y) where
   module _ (z : Staged) (starts : StartsStrands HeldStrands (part_strands y) z) (meets : EachMet z.actors) where
     wide : length (met_in z) ≡ length g.strands
     wide =
-        ap (λ (as : List Actor). length (map met as)) starts.actors_are ∙ ap (λ (oss : List (List Outcome)). length oss) (actors_met (part_strands y) starts.told 0 starts.outcomes)
+        ap (λ (acts : List Actor). length (map met acts)) starts.actors_are ∙ ap (λ (oss : List (List Outcome)). length oss) (actors_met (part_strands y) starts.told 0 starts.outcomes)
         ∙ met_wide starts.told 0 starts.outcomes ∙ starts.wide
 
     outcomes : EachFits (met_in z)
     outcomes =
-        subst (λ (as : List Actor). EachFits (map met as)) (sym starts.actors_are)
+        subst (λ (acts : List Actor). EachFits (map met acts)) (sym starts.actors_are)
         (each_fits (part_strands y) starts.told 0 starts.outcomes answers_fit (subst EachMet starts.actors_are meets))
 
     pub strands_orderly : StrandsStayOff o z → StrandsOrderly o (met_in z)
