@@ -1,5 +1,6 @@
 pub mod FewStrandLines
 pub mod LinesOfStrands
+pub mod OutcomesOfStrands
 pub mod PlansOfStrands
 pub mod StrandTexts
 pub mod StrandTurnCounts

@@ -1,5 +1,5 @@
 -- The lines of several programs with strands, as they are being told and printed.
-use Rattle.std.proofs.Common.{◌≡◌, inl, inr, ◌≤◌, ℕ, List, [], ◌∷◌, ◌++◌, length, length-append, map, Option, Some, None, Result, Ok, Err, refl, sym, ap, ◌∙◌, subst, arith, append-nil, add_assoc, ◌+◌}
+use Rattle.std.proofs.Common.{◌≡◌, inl, inr, ◌≤◌, ℕ, suc, List, [], ◌∷◌, ◌++◌, length, length-append, map, Option, Some, None, Result, Ok, Err, refl, sym, ap, ◌∙◌, subst, arith, append-nil, add_assoc, ◌+◌}
 use Rattle.std.specs.Prelude.{IsErr, MatchOption, OnErr, OnOk}
 use Rattle.std.specs.Global.{Vec}
 use Rattle.std.specs.Result.{IfErr}
@@ -23,6 +23,7 @@ use Rattle.transcript.specs.declared.events.Names.{Names}
 use Rattle.transcript.proofs.LineTexts.{becomes_by, becomes_same, nothing_yet, then_less, then_printed}
 use Rattle.strand_laws.specs.StrandWorld.{ProtocolStrandWorld, StrandLine, StrandsInWorld}
 use Rattle.strand_laws.specs.ToldStrands.{ProgramTeller}
+use Rattle.strand_laws.proofs.ToldWorlds.{HaveMet}
 use Rattle.strand_host.specs.declared.host.StrandHost.{StrandHost}
 use Rattle.strand_host.specs.declared.turn_taking.Stage.{Stage}
 use Rattle.strand_host.specs.declared.turn_taking.StrandLine.{StrandLine as LineValue}
@@ -30,12 +31,12 @@ use Rattle.strand_host.specs.StrandCalls.{BegunNext, BegunWith, TakesStrandCall,
 use Rattle.strand_host.specs.StrandHosts.{StrandHostNext, StrandHostTold, due_in, follows}
 use Rattle.strand_host.specs.StrandPrograms.{memory_of}
 use Rattle.strand_host.specs.StrandStanding.{AreLooksOut, StrandsStandAt, TellsStrandLine, hosted_of}
-use Rattle.strand_host.proofs.StrandLines.{told_lines_begin}
 use Rattle.strand_hosting.specs.HostedCopies.{IsBegunBy, IsLeft, PrintsPart, closes, counted}
 use Rattle.strand_hosting.specs.StrandCounts.{TookStrands, strand_turn_count}
 use Rattle.strand_hosting.specs.StrandParts.{names_in}
 use Rattle.strand_hosting.specs.StrandTranscripts.{named_strand_line, strand_event_lines}
 use Rattle.strand_hosting.specs.StrandWorldsTold.{AreStrandsBegun, AreStrandsTold, NamedStrands, PrintsStrands, PrintsStrandsPart, all_strand_names, strand_worlds}
+use Rattle.strand_hosting.proofs.OutcomesOfStrands.{StrandsMetBy, all_wide, are_strands_met, lines_met, met_on, none_met, whole_met}
 use Rattle.strand_hosting.proofs.StrandTexts.{strand_line_more}
 use Rattle.strand_hosting.proofs.StrandTurnCounts.{strand_begun_next, strand_turns_begun}
 
@@ -54,6 +55,13 @@ on_ok (Err e) f q = tt
 -- ---- what lines took
 
 module _ (programs : List StrandsInWorld) (detaches : List Detach) where
+  took_long : (begun ended : ℕ) (lines : List StrandLine) (met : List (List Outcome)) (old : List Counted) (last : ℕ) (new : List Counted)
+      → TookStrands programs detaches begun ended lines met old last new → length met ≡ length lines
+  took_long begun ended [] [] old last new t = refl
+  took_long begun ended (l ∷ lines) (os ∷ met) old last new t = ap suc (took_long t.0 (ended + closes ends_turn l.event) lines met t.1 last new t.4)
+  took_long begun ended [] (os ∷ met) old last new t = absurd t
+  took_long begun ended (l ∷ lines) [] old last new t = absurd t
+
   took_on : (begun ended last now : ℕ) (lines : List StrandLine) (met : List (List Outcome)) (l : StrandLine) (os : List Outcome) (old mid new : List Counted)
       → TookStrands programs detaches begun ended lines met old last mid → IsBegunBy last (ended + strand_turn_count lines) l.event now
       → TakesStrandCall programs l os (left_at last now detaches mid) new
@@ -108,6 +116,7 @@ module _ (programs : List NamedStrands) (detaches : List Detach) (cs : List Coun
     pub host : StrandHostTold gs detaches ds lines h (devices_of now)
     pub met : List (List Outcome)
     pub took : TookStrands gs detaches 0 0 lines met cs h.turns.begun now
+    pub known : StrandsMetBy lines met host.tellers
 
   -- They were printed.
   pub record HasStrandsPrinted (h : StrandHost) (now : List Counted) (old new : Option (List ℕ)) : Type 0 where
@@ -116,7 +125,13 @@ module _ (programs : List NamedStrands) (detaches : List Detach) (cs : List Coun
 
   -- its first line is still to come
   pub strands_first : (h : StrandHost) (o : Option (List ℕ)) → StrandHostTold gs detaches ds [] h ds → h.turns.begun ≡ 0 → (x : HasStrandsPrinted h cs o o) × (length x.told.lines ≡ 0)
-  strands_first h o told none = (record { told = record { lines = []; host = told; met = []; took = (none, refl) }; printed = nothing_yet o }, refl)
+  strands_first h o told none = (
+    record {
+      told = record { lines = []; host = told; met = []; took = (none, refl); known = none_met gs detaches ds [] h ds told none [] };
+      printed = nothing_yet o;
+    },
+    refl,
+  )
 
   -- nothing was printed
   pub no_strands_printed : (more : List StrandLine) × (last : List Device) × ProtocolStrandWorld gs detaches ds more last → (o : Option (List ℕ)) → PrintsStrandsPart Memory programs detaches cs cs o o
@@ -129,6 +144,7 @@ module _ (programs : List NamedStrands) (detaches : List Detach) (cs : List Coun
       met = [];
       last = b.1;
       world = b.2;
+      meets = λ p k x a ex ea. (a.outcomes, refl);
       begun = 0;
       there = cs;
       took = (refl, refl);
@@ -147,13 +163,14 @@ module _ (programs : List NamedStrands) (detaches : List Detach) (cs : List Coun
   are_begun : (h : StrandHost) (now : List Counted) (t : HasStrandsTold h now) (es : List Counted) (fault : PutFault) → IsLeft fault h.turns.begun detaches now es
       → (before behind : List StrandLine) → length behind ≤ 1 → t.lines ≡ before ++ behind → AreStrandsBegun fault programs detaches cs es (length (begun before)) (begun t.lines)
   are_begun h now t es why left before behind one parted =
-      let b = told_lines_begin gs detaches ds (devices_of now) t.lines h t.host in
+      let b = lines_met gs detaches ds t.lines h (devices_of now) t.host in
       record {
         lines = t.lines;
         more = b.0;
         met = t.met;
         last = b.1;
         world = b.2;
+        meets = are_strands_met gs detaches ds t.lines h (devices_of now) t.host t.met t.known b.2.staged b.2.starts b.3;
         begun = h.turns.begun;
         there = now;
         took = t.took;
@@ -195,6 +212,8 @@ module _ (programs : List NamedStrands) (detaches : List Detach) (cs : List Coun
         met = t.told.met ++ n.met ∷ [];
         took = took_on gs detaches 0 0 h.turns.begun next.turns.begun lines t.told.met l n.met cs now es t.told.took
             (strand_begun_next gs detaches ds lines h (devices_of now) t.told.host next.turns.begun l.event begins) n.takes;
+        known = met_on gs lines t.told.met l n.met t.told.host.tellers n.stands.tellers (took_long gs detaches 0 0 lines t.told.met cs h.turns.begun now t.told.took)
+            (all_wide gs detaches ds lines h (devices_of now) t.told.host) (all_wide gs detaches ds (lines ++ l ∷ []) next (devices_of es) n.stands) t.told.known n.meets;
       }
 
       pub strands_on : (new : Option (List ℕ)) → Becomes mid new (Appends (named_strand_line own l)) → (x : HasStrandsPrinted next es old new) × (length x.told.lines ≡ length t.told.lines + 1)
@@ -217,7 +236,7 @@ module _ (programs : List NamedStrands) (detaches : List Detach) (cs : List Coun
       )
 
     -- the last line, or less of it
-    module _ (es : List Counted) (own : List (Vec Names)) (are : map names_in own ≡ names) (world : ProtocolStrandWorld gs detaches ds t.told.lines (devices_of es)) (kept : es ≡ now)
+    module _ (es : List Counted) (own : List (Vec Names)) (are : map names_in own ≡ names) (kept : es ≡ now)
         (none : HaveEnded h.turns.dues.items × AreLooksOut h.turns.shows.items h.turns.stage) where
       abbrev last : List ℕ
       last = last_line (length own) h.turns.begun
@@ -231,11 +250,17 @@ module _ (programs : List NamedStrands) (detaches : List Detach) (cs : List Coun
           (sym (length-map own names_in) ∙ ap (λ (l : List (List T.Names)). length l) are ∙ length-map programs (λ (x : NamedStrands). x.names))
           ∙ ap (last_line (length programs)) (sym events)
 
+      whole : (w : ProtocolStrandWorld gs detaches ds lines (devices_of es)) × HaveMet t.told.host.tellers w.staged
+      whole =
+          subst (λ (c : List Counted). (w : ProtocolStrandWorld gs detaches ds lines (devices_of c)) × HaveMet t.told.host.tellers w.staged) (sym kept)
+          (whole_met gs detaches ds lines h (devices_of now) t.told.host none.0 none.1)
+
       abbrev are_told : AreStrandsTold programs detaches cs es (begun lines ++ last)
       are_told = record {
         lines = lines;
         met = t.told.met;
-        world = world;
+        world = whole.0;
+        meets = are_strands_met gs detaches ds lines h (devices_of now) t.told.host t.told.met t.told.known whole.0.staged whole.0.starts whole.1;
         took = subst (λ (n : ℕ). TookStrands gs detaches 0 0 lines t.told.met cs n es) (sym events)
             (subst (λ (c : List Counted). TookStrands gs detaches 0 0 lines t.told.met cs h.turns.begun c) (sym kept) t.told.took);
         text_is = ap (λ (s : List ℕ). begun lines ++ s) same_last;
@@ -261,8 +286,8 @@ module _ (gs : List StrandsInWorld) (detaches : List Detach) (ds : List Device) 
       → TellsStrandLine follows due_in memory_of gs detaches ds lines tellers left new (strand_line_of l) (hosted_of h.turns) es h.turns.stage
   strand_line_told l is told = subst (λ (o : Option LineValue). StrandHostNext gs detaches ds lines tellers old left new h es o) is told
 
-  pub no_strand_told : r ≡ None → StrandHostNext gs detaches ds lines tellers old left new h es r → ProtocolStrandWorld gs detaches ds lines es × (new ≡ old)
-  no_strand_told is told = subst (λ (o : Option LineValue). StrandHostNext gs detaches ds lines tellers old left new h es o) is told
+  pub no_strand_told : r ≡ None → StrandHostNext gs detaches ds lines tellers old left new h es r → new ≡ old
+  no_strand_told is told = (subst (λ (o : Option LineValue). StrandHostNext gs detaches ds lines tellers old left new h es o) is told).1
 
 pub strand_line_begins : (stage : Stage) (b b' : ℕ) (r : Option LineValue) (l : LineValue) → r ≡ Some l → BegunNext stage b b' r → BegunWith stage b b' (strand_line_of l).event
 strand_line_begins stage b b' r l is t = subst (λ (o : Option LineValue). BegunNext stage b b' o) is t
@@ -291,9 +316,6 @@ module _ {X : Type 0} {F : X → Type 0} (f : (x : X) × F x → Device) (g : (x
 
   abbrev pub strand_host_seen : (h : StrandHost) → StrandHostTold gs detaches ds lines h (devices_of (counted f g d)) → StrandHostTold gs detaches ds lines h (of_all f d)
   strand_host_seen h told = strands_standing_with lines h (devices_of (counted f g d)) (of_all f d) (counted_devices f g d) told
-
-  pub strand_world_counted : ProtocolStrandWorld gs detaches ds lines (of_all f d) → ProtocolStrandWorld gs detaches ds lines (devices_of (counted f g d))
-  strand_world_counted world = subst (λ (es : List Device). ProtocolStrandWorld gs detaches ds lines es) (sym (counted_devices f g d)) world
 
   pub strand_line_counted : (tellers : List ProgramTeller) (old new : List Counted) (line : StrandLine) (h : StrandHost)
       → TellsStrandLine follows due_in memory_of gs detaches ds lines tellers old new line (hosted_of h.turns) (of_all f d) h.turns.stage

@@ -11,7 +11,7 @@ use Rattle.vault_port.specs.Taken.{Appends}
 use Rattle.vault_port.specs.Told.{Becomes}
 use Rattle.strand_laws.specs.StrandWorld.{ProtocolStrandWorld, StrandLine, StrandsInWorld}
 use Rattle.strand_hosting.specs.HostedCopies.{IsLeft, PrintsPart}
-use Rattle.strand_hosting.specs.StrandCounts.{TookStrands, strand_turn_count}
+use Rattle.strand_hosting.specs.StrandCounts.{AreStrandsMet, TookStrands, strand_turn_count}
 use Rattle.strand_hosting.specs.StrandTranscripts.{StrandTranscript, strand_event_lines}
 
 -- A program with strands as a world has it, and the names of each strand's lines.
@@ -33,6 +33,7 @@ pub record AreStrandsTold (programs : List NamedStrands) (detaches : List Detach
   pub lines : List StrandLine
   pub met : List (List Outcome)
   pub world : ProtocolStrandWorld (strand_worlds programs) detaches (devices_of old) lines (devices_of new)
+  pub meets : AreStrandsMet lines met world.staged
   pub took : TookStrands (strand_worlds programs) detaches 0 0 lines met old (strand_turn_count lines) new
   pub text_is : text ≡ StrandTranscript (all_strand_names programs) (length programs) (strand_turn_count lines) lines
 
@@ -44,6 +45,7 @@ pub record AreStrandsBegun (fault : PutFault) (programs : List NamedStrands) (de
   pub met : List (List Outcome)
   pub last : List Device
   pub world : ProtocolStrandWorld (strand_worlds programs) detaches (devices_of old) (lines ++ more) last
+  pub meets : AreStrandsMet lines met world.staged
   pub begun : ℕ
   pub there : List Counted
   pub took : TookStrands (strand_worlds programs) detaches 0 0 lines met old begun there

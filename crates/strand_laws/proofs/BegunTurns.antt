@@ -5,6 +5,7 @@ use Rattle.std.specs.Prelude.{map, nat_eq, slice_get, slice_set, if◌then◌els
 use Rattle.std.specs.List.{AllZip}
 use Rattle.std.proofs.lemmas.List.Elements.{All-head, All-tail}
 use Rattle.wa_model.specs.declared.answers.Detach.{Detach}
+use Rattle.wa_model.specs.Behaves.{IsPrefix}
 use Rattle.wa_model.specs.Blocking.{Note, events_of}
 use Rattle.wa_model.specs.Outside.{Event, answered, called, ended, parked, paused, returned, shown}
 use Rattle.wa_model.specs.Plan.{Outcome}
@@ -15,11 +16,12 @@ use Rattle.strand_laws.proofs.Blocks.{lies_within, none_is, set_get, the_same}
 use Rattle.strand_laws.proofs.KnownTellers.{Known, known_told}
 use Rattle.strand_laws.proofs.NextTurn.{Next, outcomes_with, turn_on}
 use Rattle.strand_laws.proofs.StrandNotes.{map_both, stories_of}
-use Rattle.strand_laws.proofs.ToldGoesOn.{is_none, met_with, rest_is, told_goes_on}
+use Rattle.strand_laws.proofs.ToldGoesOn.{is_none, met_back, met_with, rest_is, told_goes_on_met}
 use Rattle.strand_laws.proofs.ToldStrands.{calls_longer, zip_get, zip_set, zip_unset}
+use Rattle.strand_laws.proofs.ToldWorlds.{HaveMet}
 use Rattle.strand_laws.proofs.TurnTaken.{dues_back, dues_get, dues_of}
 use Rattle.strand_laws.specs.StrandNotes.{BegunStrandsBegin, OnStory, TellsOnStrands}
-use Rattle.strand_laws.specs.StrandWorld.{HeldStrands, ProtocolStrandWorld, StrandLine, StrandsInWorld, looks_if, strand_program}
+use Rattle.strand_laws.specs.StrandWorld.{HeldStrands, ProtocolStrandWorld, Staged, StrandLine, StrandsInWorld, looks_if, strand_program}
 use Rattle.strand_laws.specs.Strands.{strand_at}
 use Rattle.strand_laws.specs.ToldStrands.{HasStory, IsDue, IsDueNext, IsRest, ProgramTeller, StrandTeller, TellsStrandTurn, TellsStrands}
 use Rattle.strand_laws.specs.ToldStrands.{having_told, line_of, met_and, told_on}
@@ -178,11 +180,14 @@ module _ (gs : List StrandsInWorld) (detaches : List Detach) (ds ds' : List Devi
       let a = ap length (c.1 ∙ append-nil c.0) in
       let b = c.2 in omega (arith, a, b)
 
-  n : Next g t known (some_strand gs p g some h.is_program) k first inside asks s.answers h.turn es ds'
-  n =
+  from : (n : Next g t known (some_strand gs p g some h.is_program) k first inside asks s.answers h.turn es ds') × IsPrefix h.met n.outcomes
+  from =
       turn_on g t known (some_strand gs p g some h.is_program) k first inside asks s.answers h.turn es ds' h.met h.answers rest
       (subst (λ (oss : List (List Outcome)). HeldStrands g oss ((t.told ++ told_by k h.turn) ++ rest)) (with_is h.met h.turn h.answers) story) h.calls counted h.goes_on
       (more_behind (told_by k h.turn) rest some_rest)
+
+  abbrev n : Next g t known (some_strand gs p g some h.is_program) k first inside asks s.answers h.turn es ds'
+  n = from.0
 
   abbrev is_last : Bool
   is_last = is_none n.rest
@@ -242,14 +247,28 @@ module _ (gs : List StrandsInWorld) (detaches : List Detach) (ds ds' : List Devi
       ∙ sym (append_assoc h.before (map (line_of due p k) (events_of h.turn)) behind)
       ∙ ap (λ (ls : List StrandLine). ls ++ behind) (sym h.made)
 
-  ends : (more : List StrandLine) × (last : List Device) × ProtocolStrandWorld gs detaches ds (lines ++ more) last
+  -- what the turn's calls have met begins what they meet
+  met_before : (staged : List Staged) → HaveMet (slice_set h.mid p t') staged → HaveMet tellers staged
+  met_before staged m =
+      subst (λ (ts : List ProgramTeller). HaveMet ts staged) (sym h.after)
+      (met_back h.mid p k t t1 t' s s1 s' h.there h.strand_there refl refl
+      (from.1.0, ap (λ (l : List Outcome). s.met ++ l) from.1.1 ∙ sym (append_assoc s.met h.met from.1.0)) staged m)
+
+  ends : (more : List StrandLine) × (last : List Device) × (w : ProtocolStrandWorld gs detaches ds (lines ++ more) last) × HaveMet tellers w.staged
   ends =
       let now : TellsStrands gs detaches ds (suc number) (h.before ++ told_lines) (slice_set h.mid p t') ds' = (h.before, told_lines, h.mid, h.es, h.whole, turn, refl) in
-      let r = told_goes_on gs detaches ds (suc number) (h.before ++ told_lines) (slice_set h.mid p t') ds' some now (zip_set HasStory gs h.mid p g t' stories_mid h.is_program story_then) in (
-        behind ++ r.0,
-        r.1,
-        subst (λ (ls : List StrandLine). ProtocolStrandWorld gs detaches ds ls r.1) (ap (λ (ls : List StrandLine). ls ++ r.0) lines_are ∙ append_assoc lines behind r.0) r.2,
-      )
+      let r = told_goes_on_met gs detaches ds (suc number) (h.before ++ told_lines) (slice_set h.mid p t') ds' some now (zip_set HasStory gs h.mid p g t' stories_mid h.is_program story_then) in
+      let whole =
+      subst (λ (ls : List StrandLine). (w : ProtocolStrandWorld gs detaches ds ls r.1) × HaveMet (slice_set h.mid p t') w.staged)
+      (ap (λ (ls : List StrandLine). ls ++ r.0) lines_are ∙ append_assoc lines behind r.0) (r.2, r.3) in
+      (behind ++ r.0, r.1, whole.0, met_before whole.0.staged whole.1)
+
+-- the beginning of a turn goes on to an end, in which calls meet what they met
+pub begun_begin_met : (gs : List StrandsInWorld) (detaches : List Detach) (ds ds' : List Device) (number p k due : ℕ) (lines : List StrandLine) (tellers : List ProgramTeller) → HaveStrands gs
+    → TellsOnStrands gs detaches ds number p k due lines tellers ds' → AllZip OnStory gs tellers
+    → (more : List StrandLine) × (last : List Device) × (w : ProtocolStrandWorld gs detaches ds (lines ++ more) last) × HaveMet tellers w.staged
+begun_begin_met gs detaches ds ds' number p k due lines tellers some h on = ends gs detaches ds ds' number p k due lines tellers some h on
 
 pub begun_begin : BegunStrandsBegin
-begun_begin gs detaches ds ds' number p k due lines tellers some h on = ends gs detaches ds ds' number p k due lines tellers some h on
+begun_begin gs detaches ds ds' number p k due lines tellers some h on =
+    let r = begun_begin_met gs detaches ds ds' number p k due lines tellers some h on in (r.0, r.1, r.2)

@@ -3,6 +3,7 @@ use Rattle.std.proofs.Common.{arith, ◌≡◌, ◌<◌, ◌≤◌, ◌⊎◌, i
 use Rattle.std.proofs.Common.{length-append, eq-eqb, ne_eqb}
 use Rattle.std.proofs.lemmas.List.{append_cancel_left}
 use Rattle.std.specs.Prelude.{MatchBool, nat_eq, if◌then◌else◌}
+use Rattle.wa_model.specs.Behaves.{IsPrefix}
 use Rattle.wa_model.specs.Blocking.{Note}
 use Rattle.wa_model.specs.Machine.{Ran}
 use Rattle.wa_model.specs.Outside.{AnswerLine, Call, Event, answered, called, ended, parked, paused, returned, shown}
@@ -362,7 +363,7 @@ module _ (g : StrandsInWorld) (t : ProgramTeller) (known : Known g t) (some : 0 
       closes = to_open ahead x.goes_on (known.closes ahead (story_closes g (outcomes_with os) (t.told ++ ahead) (sym split)))
 
   -- with no call in it
-  last_part : (os : List Outcome) (lines : List AnswerLine) (x : Sofar os lines) → (f : FirstTurn k x.rest) → new_calls f.turn ≡ 0 → Next
+  abbrev last_part : (os : List Outcome) (lines : List AnswerLine) (x : Sofar os lines) → (f : FirstTurn k x.rest) → new_calls f.turn ≡ 0 → Next
   last_part os lines x f none = record {
     turn = x.notes ++ f.turn;
     outcomes = os;
@@ -506,30 +507,35 @@ module _ (g : StrandsInWorld) (t : ProgramTeller) (known : Known g t) (some : 0 
           one_few None = omega arith
           one_few (Some c) = omega arith
 
-  grows : (fuel : ℕ) (os : List Outcome) (lines : List AnswerLine) → Sofar os lines → most_told g ≤ length os + fuel → Next
+  -- the next turn, whose calls meet more behind these
+  abbrev From : List Outcome → Type 0
+  From os = (n : Next) × IsPrefix os n.outcomes
+
+  grows : (fuel : ℕ) (os : List Outcome) (lines : List AnswerLine) → Sofar os lines → most_told g ≤ length os + fuel → From os
   grows zero os lines x le = by (turn_ahead os lines x)
     where
-      by : FirstTurn k x.rest → Next
+      by : FirstTurn k x.rest → From os
       by f = by_call (first_call f.turn)
         where
-          by_call : (new_calls f.turn ≡ 0) ⊎ FirstCall f.turn → Next
-          by_call (inl none) = last_part os lines x f none
+          by_call : (new_calls f.turn ≡ 0) ⊎ FirstCall f.turn → From os
+          by_call (inl none) = (last_part os lines x f none, ([], sym (append-nil os)))
           by_call (inr c) = absurd (no_room os lines x f c (omega (arith, le)))
   grows (suc fuel) os lines x le = by (λ us ls z q. grows fuel us ls z q) (turn_ahead os lines x)
     where
-      by : ((us : List Outcome) (ls : List AnswerLine) → Sofar us ls → most_told g ≤ length us + fuel → Next) → FirstTurn k x.rest → Next
+      by : ((us : List Outcome) (ls : List AnswerLine) → Sofar us ls → most_told g ≤ length us + fuel → From us) → FirstTurn k x.rest → From os
       by again f = by_call (first_call f.turn)
         where
-          by_call : (new_calls f.turn ≡ 0) ⊎ FirstCall f.turn → Next
-          by_call (inl none) = last_part os lines x f none
+          by_call : (new_calls f.turn ≡ 0) ⊎ FirstCall f.turn → From os
+          by_call (inl none) = (last_part os lines x f none, ([], sym (append-nil os)))
           by_call (inr c) =
               let m = some_meets w c.call lines ds in
               let l = length-append os (m.0 ∷ []) in
-              again (os ++ m.0 ∷ []) m.1 (met_here os lines x f c m.0 m.1 m.2) (omega (arith, le, l))
+              let r = again (os ++ m.0 ∷ []) m.1 (met_here os lines x f c m.0 m.1 m.2) (omega (arith, le, l)) in
+              (r.0, (m.0 ∷ r.1.0, r.1.1 ∙ append_assoc os (m.0 ∷ []) r.1.0))
 
   -- There is one behind its beginning, where something is still to be told.
   pub turn_on : (os : List Outcome) (lines : List AnswerLine) (rest : List Told) → HeldStrands g (outcomes_with os) ((t.told ++ told_by k start) ++ rest) → CallsMeet w start os answers ds0 [] lines ds
-      → new_calls start ≡ length os → EndNoTurn start → 0 < length (told_by k start ++ rest) → Next
+      → new_calls start ≡ length os → EndNoTurn start → 0 < length (told_by k start ++ rest) → (n : Next) × IsPrefix os n.outcomes
   turn_on os lines rest story meets count is_open lt =
       grows (most_told g) os lines (record { notes = start; rest = rest; story = sym story; meets = meets; begun = ([], sym (append-nil start)); count = count; is_open = is_open; goes_on = lt })
       (omega arith)
@@ -543,7 +549,7 @@ module _ (g : StrandsInWorld) (t : ProgramTeller) (known : Known g t) (some : 0 
       let is : met_and t.strands more ≡ longer_each (outcomes_at more) 0 base = met_longer t.strands more (outcomes_at more) 0 (λ m j e. let z : j ≡ m = omega (arith, e) in ap (outcomes_at more) z) in
       let alone = begins_alone g (outcomes_at more) base t.told some_base known.counts (rest, ap (story_of g) (sym is) ∙ sym story, lt) in
       let with_none = begins_any g (only []) base t.told some_base known.counts alone in
-      grows (most_told g) [] answers (record {
+      (grows (most_told g) [] answers (record {
         notes = [];
         rest = with_none.0;
         story = with_none.1 ∙ ap (λ (ts : List Told). ts ++ with_none.0) (sym (append-nil t.told));
@@ -552,4 +558,4 @@ module _ (g : StrandsInWorld) (t : ProgramTeller) (known : Known g t) (some : 0 
         count = refl;
         is_open = tt;
         goes_on = with_none.2;
-      }) (omega arith)
+      }) (omega arith)).0

@@ -5,21 +5,23 @@ use Rattle.std.specs.Prelude.{map, nat_eq, slice_get, slice_set, if◌then◌els
 use Rattle.std.specs.List.{AllZip}
 use Rattle.std.proofs.lemmas.List.Elements.{All-head, All-tail}
 use Rattle.wa_model.specs.declared.answers.Detach.{Detach}
+use Rattle.wa_model.specs.Behaves.{IsPrefix}
 use Rattle.wa_model.specs.Blocking.{Note}
 use Rattle.wa_model.specs.Plan.{Outcome}
 use Rattle.world_model.specs.World.{CallsMeet, Device, IsOver, Program, detached, events_with_looks}
 use Rattle.world_laws.proofs.Nexts.{SomeNext, some_next}
+use Rattle.world_laws.proofs.Places.{set_here, set_same, set_there}
 use Rattle.strand_laws.proofs.Blocks.{lies_within, none_is, the_same}
 use Rattle.strand_laws.proofs.GoingOn.{Facts, Found, ended_all, facts, next_there}
-use Rattle.strand_laws.proofs.KnownTellers.{Known, known_told}
+use Rattle.strand_laws.proofs.KnownTellers.{Known, known_told, same_or}
 use Rattle.strand_laws.proofs.NextTurn.{Next, next_turn, outcomes_with, story_of}
 use Rattle.strand_laws.proofs.Closing.{story_some}
 use Rattle.strand_laws.proofs.StoryLengths.{most_told, story_length}
 use Rattle.strand_laws.proofs.StrandForks.{longer_each}
 use Rattle.strand_laws.proofs.ToldStrands.{Whole, calls_longer, mapped_get, rows, worlds_of, zip_get, zip_set}
-use Rattle.strand_laws.proofs.ToldWorlds.{Wholes, all_told_is_world, wholes, wide_told}
+use Rattle.strand_laws.proofs.ToldWorlds.{HaveMet, Wholes, all_told_met, wholes, wide_told}
 use Rattle.strand_laws.proofs.TurnTaken.{some_told}
-use Rattle.strand_laws.specs.StrandWorld.{HeldStrands, ProtocolStrandWorld, StrandLine, StrandsInWorld, joined, looks_if, strand_program}
+use Rattle.strand_laws.specs.StrandWorld.{HeldStrands, ProtocolStrandWorld, Staged, StrandLine, StrandsInWorld, joined, looks_if, strand_program}
 use Rattle.strand_laws.specs.Strands.{strand_at}
 use Rattle.strand_laws.specs.ToldStrands.{HasStory, HaveEnded, IsRest, ProgramTeller, StrandTeller, StrandWorldsEnd, TellsStrandTurn, TellsStrands, ToldStrandsGoOn}
 use Rattle.strand_laws.specs.ToldStrands.{having_told, line_of, met_and, starting, starting_strands, told_on}
@@ -100,6 +102,33 @@ is_none (t ∷ ts) = false
 pub rest_is : (ts : List Told) → IsRest (is_none ts) ts
 rest_is [] = refl
 rest_is (t ∷ ts) = omega arith
+
+-- ---- what calls met
+
+-- what was met with more behind it begins all
+pub met_back : (mid : List ProgramTeller) (p k : ℕ) (t u v : ProgramTeller) (s su sv : StrandTeller) → slice_get mid p ≡ Some t → slice_get t.strands k ≡ Some s → u.strands ≡ slice_set t.strands k su
+    → v.strands ≡ slice_set t.strands k sv → IsPrefix su.met sv.met → (staged : List Staged) → HaveMet (slice_set mid p v) staged → HaveMet (slice_set mid p u) staged
+met_back mid p k t u v s su sv there strand_there us vs more staged h q j t' s' x a et es ex ea = by (same_or q p) (same_or j k)
+  where
+    same_u : q ≡ p → t' ≡ u
+    same_u e = the_same t' u (sym et ∙ ap (slice_get (slice_set mid p u)) e ∙ set_here mid p u t there)
+
+    own : q ≡ p → (w : StrandTeller) → slice_get v.strands j ≡ Some w → IsPrefix w.met a.outcomes
+    own e w ew = h p j v w x a (set_here mid p v t there) ew (ap (slice_get staged) (sym e) ∙ ex) ea
+
+    by : (q ≡ p) ⊎ (q ≡ p → ⊥) → (j ≡ k) ⊎ (j ≡ k → ⊥) → IsPrefix s'.met a.outcomes
+    by (inr other) o = h q j t' s' x a (set_there mid p q v other ∙ sym (set_there mid p q u other) ∙ et) es ex ea
+    by (inl e) (inr other) =
+        own e s'
+        (ap (λ (l : List StrandTeller). slice_get l j) vs ∙ set_there t.strands k j sv other ∙ sym (set_there t.strands k j su other) ∙ ap (λ (l : List StrandTeller). slice_get l j) (sym us)
+        ∙ ap (λ (w : ProgramTeller). slice_get w.strands j) (sym (same_u e)) ∙ es)
+    by (inl e) (inl f) =
+        let is : s' ≡ su = the_same s' su (sym es ∙ ap (λ (w : ProgramTeller). slice_get w.strands j) (same_u e) ∙ ap (λ (l : List StrandTeller). slice_get l j) us ∙ ap (slice_get (slice_set t.strands k su)) f
+        ∙ set_here t.strands k su s strand_there) in
+        let r = own e sv (ap (λ (l : List StrandTeller). slice_get l j) vs ∙ ap (slice_get (slice_set t.strands k sv)) f ∙ set_here t.strands k sv s strand_there) in (
+          more.0 ++ r.0,
+          r.1 ∙ ap (λ (l : List Outcome). l ++ r.0) more.1 ∙ append_assoc su.met more.0 r.0 ∙ ap (λ (w : StrandTeller). w.met ++ (more.0 ++ r.0)) (sym is),
+        )
 
 -- ---- one more turn
 
@@ -214,27 +243,42 @@ module _ (gs : List StrandsInWorld) (detaches : List Detach) (some : HaveStrands
       by (inr n) = inr (goes_there number tellers ds stories known w.all w.worlds (next_there w.all tellers all n))
 
   module _ (ds0 : List Device) where
-    -- the world goes on from these lines to an end
-    abbrev Ends : List StrandLine → Type 0
-    Ends lines = (more : List StrandLine) × (last : List Device) × ProtocolStrandWorld gs detaches ds0 (lines ++ more) last
+    -- the world goes on from these lines to an end, and its calls meet what they met
+    abbrev Ends : List StrandLine → List ProgramTeller → Type 0
+    Ends lines tellers = (more : List StrandLine) × (last : List Device) × (w : ProtocolStrandWorld gs detaches ds0 (lines ++ more) last) × HaveMet tellers w.staged
 
     from_step : (fuel count : ℕ) (lines : List StrandLine) (tellers : List ProgramTeller) (ds : List Device) → TellsStrands gs detaches ds0 count lines tellers ds
-        → ((ls : List StrandLine) (ts : List ProgramTeller) (d : List Device) → TellsStrands gs detaches ds0 (suc count) ls ts d → AllZip HasStory gs ts → Ends ls) → AllZip HasStory gs tellers → Ends lines
+        → ((ls : List StrandLine) (ts : List ProgramTeller) (d : List Device) → TellsStrands gs detaches ds0 (suc count) ls ts d → AllZip HasStory gs ts → Ends ls ts) → AllZip HasStory gs tellers
+        → Ends lines tellers
     from_step fuel count lines tellers ds told again stories =
         by (step (suc count) tellers ds (wide_told gs detaches ds0 count lines tellers ds told) (known_told gs detaches ds0 count lines tellers ds told) stories)
       where
-        by : HaveEnded tellers ⊎ Goes (suc count) tellers ds → Ends lines
+        before : (q : Goes (suc count) tellers ds) (staged : List Staged) → HaveMet q.tellers' staged → HaveMet tellers staged
+        before q staged m =
+            let x = q.turn in
+            let s' = having_told x.s x.turn x.met x.answers in
+            let t' = told_on x.t x.strand s' x.turn x.is_last in
+            subst (λ (ts : List ProgramTeller). HaveMet ts staged) (set_same tellers x.program x.t x.there)
+            (met_back tellers x.program x.strand x.t x.t t' x.s x.s s' x.there x.strand_there (sym (set_same x.t.strands x.strand x.s x.strand_there)) refl (x.met, refl) staged
+            (subst (λ (ts : List ProgramTeller). HaveMet ts staged) x.after m))
+
+        by : HaveEnded tellers ⊎ Goes (suc count) tellers ds → Ends lines tellers
         by (inl ended) =
-            ([], ds, subst (λ (ls : List StrandLine). ProtocolStrandWorld gs detaches ds0 ls ds) (sym (append-nil lines)) (all_told_is_world gs detaches ds0 count lines tellers ds some told stories ended))
+            let whole =
+            subst (λ (ls : List StrandLine). (w : ProtocolStrandWorld gs detaches ds0 ls ds) × HaveMet tellers w.staged) (sym (append-nil lines))
+            (all_told_met gs detaches ds0 count lines tellers ds some told stories ended) in
+            ([], ds, whole.0, whole.1)
         by (inr q) =
             let r = again (lines ++ q.lines) q.tellers' q.devices (lines, q.lines, tellers, ds, told, q.turn, refl) q.stories in
-            (q.lines ++ r.0, r.1, subst (λ (ls : List StrandLine). ProtocolStrandWorld gs detaches ds0 ls r.1) (append_assoc lines q.lines r.0) r.2)
+            let whole =
+            subst (λ (ls : List StrandLine). (w : ProtocolStrandWorld gs detaches ds0 ls r.1) × HaveMet q.tellers' w.staged) (append_assoc lines q.lines r.0) (r.2, r.3) in
+            (q.lines ++ r.0, r.1, whole.0, before q whole.0.staged whole.1)
 
     go_on : (fuel count : ℕ) (lines : List StrandLine) (tellers : List ProgramTeller) (ds : List Device) → TellsStrands gs detaches ds0 count lines tellers ds → AllZip HasStory gs tellers
-        → most_in gs ≤ count + fuel → Ends lines
+        → most_in gs ≤ count + fuel → Ends lines tellers
     go_on zero count lines tellers ds told stories le = from_step 0 count lines tellers ds told (λ ls ts d h st. full ls ts d h st) stories
       where
-        full : (ls : List StrandLine) (ts : List ProgramTeller) (d : List Device) → TellsStrands gs detaches ds0 (suc count) ls ts d → AllZip HasStory gs ts → Ends ls
+        full : (ls : List StrandLine) (ts : List ProgramTeller) (d : List Device) → TellsStrands gs detaches ds0 (suc count) ls ts d → AllZip HasStory gs ts → Ends ls ts
         full ls ts d h st =
             let a = counted gs detaches ds0 (suc count) ls ts d h in
             let b = bounded gs ts st in
@@ -242,8 +286,15 @@ module _ (gs : List StrandsInWorld) (detaches : List Detach) (some : HaveStrands
     go_on (suc fuel) count lines tellers ds told stories le =
         from_step (suc fuel) count lines tellers ds told (λ ls ts d h st. go_on fuel (suc count) ls ts d h st (omega (arith, le))) stories
 
+-- what was told goes on to an end, in which calls meet what they met
+pub told_goes_on_met : (gs : List StrandsInWorld) (detaches : List Detach) (ds : List Device) (count : ℕ) (lines : List StrandLine) (tellers : List ProgramTeller) (ds' : List Device) → HaveStrands gs
+    → TellsStrands gs detaches ds count lines tellers ds' → AllZip HasStory gs tellers
+    → (more : List StrandLine) × (last : List Device) × (w : ProtocolStrandWorld gs detaches ds (lines ++ more) last) × HaveMet tellers w.staged
+told_goes_on_met gs detaches ds count lines tellers ds' some told stories = go_on gs detaches some ds (most_in gs) count lines tellers ds' told stories (omega arith)
+
 pub told_goes_on : ToldStrandsGoOn
-told_goes_on gs detaches ds count lines tellers ds' some told stories = go_on gs detaches some ds (most_in gs) count lines tellers ds' told stories (omega arith)
+told_goes_on gs detaches ds count lines tellers ds' some told stories =
+    let r = told_goes_on_met gs detaches ds count lines tellers ds' some told stories in (r.0, r.1, r.2)
 
 -- ---- from the start
 

@@ -4,6 +4,7 @@ use Rattle.std.specs.Prelude.{map, slice_get}
 use Rattle.std.specs.List.{AllZip}
 use Rattle.std.proofs.lemmas.List.Elements.{All-append, All-cons, All-head, All-nil, All-tail}
 use Rattle.wa_model.specs.declared.answers.Detach.{Detach}
+use Rattle.wa_model.specs.Behaves.{IsPrefix}
 use Rattle.wa_model.specs.Outside.{Line}
 use Rattle.wa_model.specs.Plan.{Outcome}
 use Rattle.world_model.specs.World.{Actor, Device, IsOver}
@@ -149,7 +150,7 @@ module _ (xs : List Whole) (each : Each xs) (detaches : List Detach) (ds : List 
   abbrev UpTo : ℕ → List StrandLine → List ProgramTeller → List Device → Type 0
   UpTo count lines tellers ds' = (u : ProtocolStrandWorldUpTo (worlds_of xs) detaches ds count lines ds') × (u.now ≡ joined (rows xs tellers))
 
-  up_to : (count : ℕ) (lines : List StrandLine) (tellers : List ProgramTeller) (ds' : List Device) → TellsStrands (worlds_of xs) detaches ds count lines tellers ds' → AllZip Fits xs tellers
+  abbrev up_to : (count : ℕ) (lines : List StrandLine) (tellers : List ProgramTeller) (ds' : List Device) → TellsStrands (worlds_of xs) detaches ds count lines tellers ds' → AllZip Fits xs tellers
       → UpTo count lines tellers ds'
   up_to count lines tellers ds' h fits =
       let r = reached count lines tellers ds' h fits in (
@@ -164,7 +165,7 @@ module _ (xs : List Whole) (each : Each xs) (detaches : List Detach) (ds : List 
         refl,
       )
 
-whole_run : (gs : List StrandsInWorld) (detaches : List Detach) (ds : List Device) (count : ℕ) (lines : List StrandLine) (ds' : List Device)
+abbrev whole_run : (gs : List StrandsInWorld) (detaches : List Detach) (ds : List Device) (count : ℕ) (lines : List StrandLine) (ds' : List Device)
     (u : ProtocolStrandWorldUpTo gs detaches ds count lines ds') → IsOver u.now → ProtocolStrandWorld gs detaches ds lines ds'
 whole_run gs detaches ds count lines ds' u over = record {
   staged = u.staged;
@@ -265,9 +266,36 @@ told_is_world gs detaches ds count lines tellers ds' some h stories =
     subst (λ qs. ProtocolStrandWorldUpTo qs detaches ds count lines ds') w.worlds
     (up_to w.all w.each detaches ds count lines tellers ds' (subst (λ qs. TellsStrands qs detaches ds count lines tellers ds') (sym w.worlds) h) w.fits).0
 
-pub all_told_is_world : AllToldStrandsAreWorld
-all_told_is_world gs detaches ds count lines tellers ds' some h stories ended =
+-- ---- what calls met
+
+-- The outcomes of each strand's actor begin with those that its calls met.
+abbrev pub HaveMet : List ProgramTeller → List Staged → Type 0
+HaveMet tellers staged =
+    (p k : ℕ) (t : ProgramTeller) (s : StrandTeller) (x : Staged) (a : Actor) → slice_get tellers p ≡ Some t → slice_get t.strands k ≡ Some s → slice_get staged p ≡ Some x
+    → slice_get x.actors k ≡ Some a → IsPrefix s.met a.outcomes
+
+actor_outcomes : (g : StrandsInWorld) (ts : List Told) (i : ℕ) (oss : List (List Outcome)) (k : ℕ) (a : Actor) → slice_get (strand_actors g ts i oss) k ≡ Some a → a.outcomes ≡ outcomes_at oss k
+actor_outcomes g ts i [] k a e = none_is a e
+actor_outcomes g ts i (os ∷ oss) zero a e =
+    ap (λ (b : Actor). b.outcomes) (sym (the_same (record { due = 0; notes = notes_of i ts; outcomes = os; answers = answers_of g i }) a e))
+actor_outcomes g ts i (os ∷ oss) (suc k) a e = actor_outcomes g ts (suc i) oss k a e
+
+have_met : (xs : List Whole) (ts : List ProgramTeller) → AllZip Fits xs ts → HaveMet ts (map staged_of xs)
+have_met [] ts h p k t s y a et es ey ea = none_is y ey
+have_met (x ∷ xs) [] h p k t s y a et es ey ea = none_is t et
+have_met (x ∷ xs) (u ∷ ts) h zero k t s y a et es ey ea =
+    let m = h.0.more k s (ap (λ (v : ProgramTeller). slice_get v.strands k) (the_same u t et) ∙ es) in
+    (m.0, actor_outcomes x.g x.all 0 x.outcomes k a (ap (λ (v : Staged). slice_get v.actors k) (the_same (staged_of x) y ey) ∙ ea) ∙ m.1)
+have_met (x ∷ xs) (u ∷ ts) h (suc p) k t s y a et es ey ea = have_met xs ts h.1 p k t s y a et es ey ea
+
+-- where all have ended, a whole run, in which calls meet what they met
+pub all_told_met : (gs : List StrandsInWorld) (detaches : List Detach) (ds : List Device) (count : ℕ) (lines : List StrandLine) (tellers : List ProgramTeller) (ds' : List Device) → HaveStrands gs
+    → TellsStrands gs detaches ds count lines tellers ds' → AllZip HasStory gs tellers → HaveEnded tellers → (w : ProtocolStrandWorld gs detaches ds lines ds') × HaveMet tellers w.staged
+all_told_met gs detaches ds count lines tellers ds' some h stories ended =
     let w = wholes gs tellers some (wide_told gs detaches ds count lines tellers ds' h) stories in
     let u = up_to w.all w.each detaches ds count lines tellers ds' (subst (λ qs. TellsStrands qs detaches ds count lines tellers ds') (sym w.worlds) h) w.fits in
-    subst (λ qs. ProtocolStrandWorld qs detaches ds lines ds') w.worlds
-    (whole_run (worlds_of w.all) detaches ds count lines ds' u.0 (subst IsOver (sym u.1) (rows_over w.all tellers w.fits ended)))
+    subst (λ (qs : List StrandsInWorld). (v : ProtocolStrandWorld qs detaches ds lines ds') × HaveMet tellers v.staged) w.worlds
+    (whole_run (worlds_of w.all) detaches ds count lines ds' u.0 (subst IsOver (sym u.1) (rows_over w.all tellers w.fits ended)), have_met w.all tellers w.fits)
+
+pub all_told_is_world : AllToldStrandsAreWorld
+all_told_is_world gs detaches ds count lines tellers ds' some h stories ended = (all_told_met gs detaches ds count lines tellers ds' some h stories ended).0

@@ -11,7 +11,7 @@ use Rattle.strand_hosting.specs.StrandParts.{names_in}
 use Rattle.strand_hosting.specs.StrandWorldsTold.{strand_worlds}
 use Rattle.strand_hosting.proofs.FewStrandLines.{few_strand_lines}
 use Rattle.strand_hosting.proofs.LinesOfStrands.{last_of_strand, line_named}
-use Rattle.strand_hosting.proofs.StrandsPrinted.{has_failed, if_err, no_strand_told, none_left, on_ok, strand_host_seen, strand_line_begins, strand_line_counted, strand_line_told, strand_world_counted}
+use Rattle.strand_hosting.proofs.StrandsPrinted.{has_failed, if_err, no_strand_told, none_left, on_ok, strand_host_seen, strand_line_begins, strand_line_counted, strand_line_told}
 use Rattle.strand_hosting.proofs.StrandsPrinted.{strands_first, strands_less, strands_less_last, strands_on, strands_so_far, strands_whole}
 use Rattle.strand_hosting.proofs.strand_telling.tell_strand_lines.Goals as goal
 
@@ -63,13 +63,12 @@ returns-in_default-next-clause-told g c = λ programs detaches b.
     let t = (c.telling.invariant.told programs detaches b).0 in
     let gs = strand_worlds programs in
     let ds = devices_of (counted (λ z. (goal.Device-dyn g z).seen z.1) (λ z. (goal.Device-dyn g z).faults z.1) c.args.devices.now) in
-    let world =
+    let kept =
     no_strand_told gs detaches ds t.told.lines t.told.host.tellers _ _ _ c.next.new.self _ c.in-Ok.next c.in_default-next.is
     (c.in-Ok.ensures.told gs detaches ds t.told.lines
     (strand_host_seen (λ z. (goal.Device-dyn g z).seen z.1) (λ z. (goal.Device-dyn g z).faults z.1) gs detaches ds t.told.lines c.telling.devices c.telling.host t.told.host)) in
-    let both = strand_world_counted (λ z. (goal.Device-dyn g z).seen z.1) (λ z. (goal.Device-dyn g z).faults z.1) gs detaches ds t.told.lines c.next.new.devices world.0 in
     on_ok c.put_last.result
-    (strands_whole programs detaches _ c.telling.host _ _ _ t _ c.args.names.now b.names_are both world.1 (none_left _ _ c.in-Ok.next c.in_default-next.is c.in-Ok.ensures.none) _)
+    (strands_whole programs detaches _ c.telling.host _ _ _ t _ c.args.names.now b.names_are kept (none_left _ _ c.in-Ok.next c.in_default-next.is c.in-Ok.ensures.none) _)
     (subst (λ (s : List ℕ). OnOk c.put_last.result (Becomes (g.S.Sink.taken c.telling.out) (g.S.Sink.taken c.put_last.new.out) (Appends s)))
     (λ k. last_line (length c.args.names.now) (c.events-events.ensures k)) c.put_last.ensures.printed)
 
@@ -78,13 +77,12 @@ returns-in_default-next-clause-part g c = λ programs detaches b.
     let t = (c.telling.invariant.told programs detaches b).0 in
     let gs = strand_worlds programs in
     let ds = devices_of (counted (λ z. (goal.Device-dyn g z).seen z.1) (λ z. (goal.Device-dyn g z).faults z.1) c.args.devices.now) in
-    let world =
+    let kept =
     no_strand_told gs detaches ds t.told.lines t.told.host.tellers _ _ _ c.next.new.self _ c.in-Ok.next c.in_default-next.is
     (c.in-Ok.ensures.told gs detaches ds t.told.lines
     (strand_host_seen (λ z. (goal.Device-dyn g z).seen z.1) (λ z. (goal.Device-dyn g z).faults z.1) gs detaches ds t.told.lines c.telling.devices c.telling.host t.told.host)) in
-    let both = strand_world_counted (λ z. (goal.Device-dyn g z).seen z.1) (λ z. (goal.Device-dyn g z).faults z.1) gs detaches ds t.told.lines c.next.new.devices world.0 in
     if_err _ c.put_last.result
-    (λ fault. strands_less_last programs detaches _ c.telling.host _ _ _ t _ c.args.names.now b.names_are both world.1
+    (λ fault. strands_less_last programs detaches _ c.telling.host _ _ _ t _ c.args.names.now b.names_are kept
     (none_left _ _ c.in-Ok.next c.in_default-next.is c.in-Ok.ensures.none) fault _)
     (subst (λ (s : List ℕ). OnErr c.put_last.result (Becomes (g.S.Sink.taken c.telling.out) (g.S.Sink.taken c.put_last.new.out) (AppendsLess s)))
     (λ k. last_line (length c.args.names.now) (c.events-events.ensures k)) c.put_last.ensures.less)
