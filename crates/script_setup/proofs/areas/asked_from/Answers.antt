@@ -11,7 +11,7 @@ loop-strand-init c = refl
 pub loop-strand-preserved : goal.loop-strand-preserved
 loop-strand-preserved c =
     asked_next c.args.pages c.args.strands.now c.loop-strand.strand-index (area_text_of c.loop-strand.asked) (asked_from c.args.pages (area_text_of c.args.own) (map strand_of c.args.strands.now))
-    c.loop-strand.invariant c.strand-item.result c.loop-strand-test.true c.strand-item.is (area_text_of c.worse.result) c.worse.ensures
+    c.loop-strand.invariant c.strand-item.result c.loop-strand-test.true c.strand-item.is (area_text_of c.worse-asked.result) c.worse-asked.ensures
 
 pub returns : goal.returns
 returns c =
