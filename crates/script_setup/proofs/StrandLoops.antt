@@ -10,7 +10,7 @@ use Rattle.run_theory.proofs.GrownSteps.{front}
 use Rattle.run_theory.proofs.RuntimeValid.{behind}
 use Rattle.script_model.specs.Script as T
 use Rattle.script_model.specs.ScriptText.{AreaText}
-use Rattle.host_setup.specs.SetUp.{NamedEntry, is_area_in}
+use Rattle.host_setup.specs.SetUp.{NamedEntry}
 use Rattle.host_setup.specs.declared.entries.Entry.{Entry}
 use Rattle.host_setup.specs.Views.{entry_of as named_entry_of}
 use Rattle.script_reader.specs.declared.script.EntryText.{EntryText}

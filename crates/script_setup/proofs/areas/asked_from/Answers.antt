@@ -1,4 +1,4 @@
-use Rattle.std.proofs.Common.{refl, sym, map, ◌∙◌}
+use Rattle.std.proofs.Common.{refl, map}
 use Rattle.script_reader.specs.Views.{strand_of}
 use Rattle.script_setup.specs.SetUpRules.{asked_from}
 use Rattle.script_setup.specs.Views.{area_text_of}
