@@ -3,6 +3,7 @@ pub mod Choices
 mod Declared
 pub mod Ending
 pub mod Endings
+pub mod GatheredStrands
 pub mod GoingOver
 mod Hosted
 pub mod JoinedRuns
@@ -22,7 +23,6 @@ pub mod PlayedTurns
 pub mod Prepared
 pub mod ProgramModules
 pub mod PutBack
-pub mod PutNames
 pub mod Runs
 pub mod SamePrograms
 pub mod SameSetUp
@@ -40,6 +40,7 @@ pub mod Steps
 pub mod StrandAreas
 pub mod StrandEnding
 pub mod StrandLogs
+pub mod StrandOriginals
 pub mod StrandToldOf
 pub mod Unbinding
 pub mod WholeScripts

@@ -20,4 +20,4 @@ returns-in-Ok-clause-ready g c =
     ready c.args.whole c.requires c.args.way (g.V.Vault.files c.args.vault.now) _
     (subst (λ (ms : List MailboxText). AreOpened c.args.way (box_names_of ms) (g.V.Vault.files c.args.vault.now) (map program_of c.args.whole.programs.items) c.in-Ok.programs) c.deref.ensures.value
     c.in-Ok.ensures.opened)
-    c.strand_line.ensures
+    c.strand_line-strand.ensures

@@ -5,7 +5,7 @@ use Rattle.script_reader.specs.declared.script.StrandText.{StrandText}
 use Rattle.script_reader.specs.Views.{strand_of}
 use Rattle.script_setup.specs.SetUpRules.{strand_names}
 use Rattle.transcript.specs.Printing.{names_of}
-use Rattle.script_command.proofs.PutNames.{put_all, put_next}
+use Rattle.script_command.proofs.GatheredStrands.{put_all, put_next}
 use Rattle.script_command.proofs.strand_planning.put_names.Goals as goal
 
 pub loop-strand-init : goal.loop-strand-init

@@ -9,7 +9,12 @@ use Rattle.script_command.proofs.StagedParts.{none_behind, none_left, zip_more}
 use Rattle.script_command.proofs.strand_planning.strand_parts.Goals as goal
 
 pub loop-text-init : goal.loop-text-init
-loop-text-init c = ([], tt, refl)
+loop-text-init c =
+    (
+      [],
+      subst (AllZip IsStrandPart []) (sym c.new-parts.ensures.items) tt,
+      ap (λ (ts : List StrandValue). map strand_of ts) (sym c.into_iter-text-iterator.ensures.into_iter_gives.0),
+    )
 
 pub loop-text-preserved : goal.loop-text-preserved
 loop-text-preserved c =
