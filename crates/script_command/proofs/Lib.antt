@@ -38,9 +38,13 @@ pub mod StagedStrandParts
 pub mod Statuses
 pub mod Steps
 pub mod StrandAreas
+pub mod StrandCounting
 pub mod StrandEnding
+pub mod StrandFaults
+pub mod StrandGoes
 pub mod StrandLogs
 pub mod StrandOriginals
 pub mod StrandToldOf
+pub mod StrandTurns
 pub mod Unbinding
 pub mod WholeScripts

@@ -25,6 +25,7 @@ use Rattle.script_command.specs.StrandOriginals.{IsStrandsRewritten, StrandsStay
 use Rattle.script_command.specs.StrandTold.{IsStrandToldOf, IsStrandTranscript, OfStrandOriginals, RunsStrandOriginals, named_strands, original_strand_names, strands_played}
 use Rattle.script_command.specs.StrandWorlds.{part_strands, strand_names_in, strand_names_of}
 use Rattle.script_command.proofs.Runs.{SameImports, as_many, heeds, imports_over, in_range, names_over}
+use Rattle.script_command.proofs.StrandFaults.{strand_faults}
 use Rattle.script_command.proofs.StrandLogs.{strands_logged}
 use Rattle.script_command.proofs.StrandOriginals.{strands_of_originals}
 
@@ -146,4 +147,5 @@ strand_told_of way files name play old new text told = record {
   told = told;
   originals = of_originals way files name play old new text told;
   logs = strands_logged (strand_worlds (strands_played play)) (detaches_in play.whole) told.lines told.met old new told.took;
+  faults = strand_faults (strand_worlds (strands_played play)) (detaches_in play.whole) told.lines told.met old new told.world told.took;
 }

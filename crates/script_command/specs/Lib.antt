@@ -16,6 +16,7 @@ pub mod SnapshotCalls
 pub mod SnapshotEnds
 pub mod SnapshotTelling
 pub mod SnapshotViews
+pub mod StrandFaults
 pub mod StrandLogs
 pub mod StrandOriginals
 pub mod StrandTold

@@ -16,6 +16,7 @@ use Rattle.script_command.specs.declared.way.Way.{Way}
 use Rattle.script_command.specs.declared.way.Way.TheVariants.{Host, Run}
 use Rattle.script_command.specs.Playing.{Play, detaches_in}
 use Rattle.script_command.specs.RunOriginals.{IsSource}
+use Rattle.script_command.specs.StrandFaults.{AreStrandFaultsCounted}
 use Rattle.script_command.specs.StrandLogs.{AreStrandsLogged}
 use Rattle.script_command.specs.StrandOriginals.{StrandsStayOff, strand_originals_for}
 use Rattle.script_command.specs.StrandWorlds.{part_strands, strand_names_in, strand_names_of}
@@ -64,8 +65,10 @@ OfStrandOriginals Run files name play old new text told = RunsStrandOriginals fi
 OfStrandOriginals Host files name play old new text told = Unit {0}
 
 -- The text is the transcript of what is played, which is told of its originals. The devices that are left are those that were there, in
--- order, each with its log behind its journal.
+-- order, each with its log behind its journal, and the count of each is at least its old one and the number of lines that tell a fault of
+-- it, or stands at the greatest u64.
 pub record IsStrandToldOf {way : Way} {files : Option Files} {name : List ℕ} (play : Play way files name) (old new : List Counted) (text : List ℕ) : Type 0 where
   pub told : IsStrandTranscript play old new text
   pub originals : OfStrandOriginals way files name play old new text told
   pub logs : AreStrandsLogged (strand_worlds (strands_played play)) (detaches_in play.whole) told.lines told.met (devices_of old) (devices_of new)
+  pub faults : AreStrandFaultsCounted (strand_worlds (strands_played play)) (detaches_in play.whole) told.lines old new
