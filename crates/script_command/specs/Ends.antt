@@ -76,7 +76,7 @@ IsLine c least line =
     ⊎ ((read : List ℕ) × IsRead c.way c.files c.name read × (line ≡ refusal_line None (read_fault read)) × (least ≡ 0) × (c.devices' ≡ c.devices))
 
 -- Why a call has this end, what was printed, and what became of the devices: what is played takes them from those that were there to
--- those that are left, and is told of the programs' originals; a refusal leaves them as they were.
+-- those that are left, and under `run` is told of the programs' originals; a refusal leaves them as they were.
 abbrev pub IsWhy : Call → End → Type 0
 IsWhy c done = (play : Play c.way c.files c.name) × (text : List ℕ) × IsTold play c.devices c.devices' text × Becomes c.taken c.taken' (Appends text)
 IsWhy c (refused cause) =

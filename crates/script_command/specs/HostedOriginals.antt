@@ -34,7 +34,7 @@ pub record IsHosted (x : Source) (y : Part) : Type 0 where
 abbrev pub RunsOrderly : Original → Actor → Type 0
 RunsOrderly o a = OrderlyUntold o (met a)
 
--- What is told under `host` of programs over rewritten modules are the lines of a run of the blocking world of their originals, with the
+-- What is told under `host` of programs over rewritten modules, in a script without strands, are the lines of a run of the blocking world of their originals, with the
 -- same devices, and the text is its transcript, with the originals' own names, where each original runs orderly.
 abbrev pub HostsAreOfOriginals : Type 0
 HostsAreOfOriginals =

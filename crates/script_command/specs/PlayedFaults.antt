@@ -8,7 +8,7 @@ use Rattle.script_command.specs.declared.way.Way.{Way}
 use Rattle.world_hosting.specs.Worlds.{AreTold, world_programs}
 use Rattle.world_hosting.specs.FaultCounts.{CountsTo, with_told}
 
--- Of what is told to the end, under `host` and under `run`: the count of each device that is left is at least its old one and the number
+-- Of what is told to the end of a script without strands, under `host` and under `run`: the count of each device that is left is at least its old one and the number
 -- of lines `end device fault` of calls to it, or stands at the greatest u64.
 abbrev pub PlayedFaultsAreCounted : Type 0
 PlayedFaultsAreCounted =

@@ -66,7 +66,7 @@ IsBadModule Run files t r = (bytes : List ℕ) × Holds files t.path bytes × Is
 abbrev pub boxes_in : Script → List (List ℕ)
 boxes_in s = box_names s.mailboxes
 
--- `run` alone asks that no memory is shown that overlaps the area
+-- `run` alone asks that no memory is shown that overlaps an area
 abbrev pub asks_all : Way → Bool
 asks_all Host = false
 asks_all Run = true

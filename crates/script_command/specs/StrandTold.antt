@@ -64,7 +64,7 @@ abbrev pub OfStrandOriginals : (way : Way) (files : Option Files) (name : List �
 OfStrandOriginals Run files name play old new text told = RunsStrandOriginals files name play old new text told
 OfStrandOriginals Host files name play old new text told = Unit {0}
 
--- The text is the transcript of what is played, which is told of its originals. The devices that are left are those that were there, in
+-- The text is the transcript of what is played, which under `run` is told of its originals. The devices that are left are those that were there, in
 -- order, each with its log behind its journal, and the count of each is at least its old one and the number of lines that tell a fault of
 -- it, or stands at the greatest u64.
 pub record IsStrandToldOf {way : Way} {files : Option Files} {name : List ℕ} (play : Play way files name) (old new : List Counted) (text : List ℕ) : Type 0 where

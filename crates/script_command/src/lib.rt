@@ -16,7 +16,7 @@
 //!
 //! More is known:
 //!
-//! - What `run` prints, where no original touches a byte of its area, are the lines of a run of the blocking world of the originals
+//! - What `run` prints of a script without strands, where no original touches a byte of its area, are the lines of a run of the blocking world of the originals
 //!   themselves (`specs/RunOriginals.antt`); a program whose bound is within its steps comes to its end (`specs/Completeness.antt`).
 //! - What `host` tells of programs over rewritten modules is what their originals do, where these pause at listed imports alone
 //!   (`specs/HostedOriginals.antt`): a module that was transformed, and then is hosted.
@@ -24,7 +24,8 @@
 //!   programs' modules on its own, and stands for the same originals (`specs/JoinedRuns.antt`).
 //! - A snapshot that was saved suits its script's programs, and a continue over the same script and modules is refused for nothing but reading
 //!   (`specs/SavedSnapshots.antt`).
-//! - Whatever is played, the devices count the faults that the lines tell (`specs/PlayedFaults.antt`).
+//! - Whatever is played without strands, the devices count the faults that the lines tell (`specs/PlayedFaults.antt`); so they do with strands, of
+//!   which `specs/StrandTold.antt` says what is told.
 //! - A script that can be played isn't refused, and one that is refused is refused for one cause (`specs/Laws.antt`).
 //!
 //! - `way`, `modules`, `programs`, `opening`: whether modules are rewritten, a program's module, the programs in order, and the script.
