@@ -1,5 +1,5 @@
 -- What is planned of further strands, one after another.
-use Rattle.std.proofs.Common.{◌∙◌, ◌++◌, List, [], ◌∷◌, map, refl, sym, ap, subst, append_assoc}
+use Rattle.std.proofs.Common.{◌∙◌, ◌++◌, List, [], ◌∷◌, map, sym, ap, subst, append_assoc}
 use Rattle.std.specs.List.{AllZip}
 use Rattle.script_model.specs.Script.{StrandText}
 use Rattle.script_reader.specs.declared.script.StrandText.{StrandText as StrandValue}
@@ -10,12 +10,11 @@ use Rattle.script_command.proofs.StagedParts.{none_behind, none_left, zip_more}
 use Rattle.script_command.proofs.strand_planning.strand_parts.Goals as goal
 
 pub loop-text-init : goal.loop-text-init
-loop-text-init c =
-    (
-      [],
-      subst (AllZip IsStrandPart []) (sym c.new-parts.ensures.items) tt,
-      ap (λ (ts : List StrandValue). map strand_of ts) (sym c.into_iter-text-iterator.ensures.into_iter_gives.0),
-    )
+loop-text-init c = (
+  [],
+  subst (AllZip IsStrandPart []) (sym c.new-parts.ensures.items) tt,
+  ap (λ (ts : List StrandValue). map strand_of ts) (sym c.into_iter-text-iterator.ensures.into_iter_gives.0),
+)
 
 pub loop-text-preserved : goal.loop-text-preserved
 loop-text-preserved c =
