@@ -1,5 +1,5 @@
 -- A program of a script that is planned with all its strands: it can be set up, and is the program of a world that it is to be.
-use Rattle.std.proofs.Common.{◌≡◌, ◌≤◌, ℕ, List, [], ◌∷◌, length, map, take, drop, All, Bool, Option, Some, None, Ok, arith, refl, sym, ap, ◌∙◌, subst}
+use Rattle.std.proofs.Common.{◌≡◌, ◌≤◌, ℕ, List, [], ◌∷◌, length, map, take, drop, All, Bool, Option, None, arith, refl, sym, ap, ◌∙◌, subst}
 use Rattle.std.specs.Prelude.{IfOk, Result, slice_get}
 use Rattle.std.specs.List.{AllZip}
 use Rattle.std.specs.Option.{unwrap_or}
@@ -16,7 +16,6 @@ use Rattle.world_model.specs.World.{Look}
 use Rattle.host_setup.specs.SetUp.{NamedEntry, set_up}
 use Rattle.host_setup.specs.Views.{entry_of as named_entry_of}
 use Rattle.pause_host.specs.Moves.{HasShortPokes}
-use Rattle.pause_host.specs.declared.plan.Plan.{Plan}
 use Rattle.pause_host.specs.Programs.{BindsAs, IsPlan, named_entries, source_of}
 use Rattle.pause_host.specs.Settings.{calls_of}
 use Rattle.script_model.specs.Script.{EntryText, ProgramText, StrandText}

@@ -1,5 +1,5 @@
 -- What each device has answered in a run of programs with strands.
-use Rattle.std.specs.Prelude.{◌≡◌, [], List, map}
+use Rattle.std.specs.Prelude.{[], List, map}
 use Rattle.wa_model.specs.declared.answers.Detach.{Detach}
 use Rattle.wa_model.specs.Plan.{Outcome}
 use Rattle.world_model.specs.World.{Device, Program}

@@ -6,7 +6,7 @@ use Rattle.vault_port.specs.declared.whole.PutFault.{PutFault}
 use Rattle.script_model.specs.Transcript.{Names}
 use Rattle.event_order.specs.Left.{Counted}
 use Rattle.many_host.specs.Calls.{devices_of}
-use Rattle.strand_laws.specs.StrandWorld.{BlockingStrandWorld, StrandsInWorld}
+use Rattle.strand_laws.specs.StrandWorld.{BlockingStrandWorld}
 use Rattle.strand_hosting.specs.StrandCounts.{strand_turn_count}
 use Rattle.strand_hosting.specs.StrandTranscripts.{StrandTranscript}
 use Rattle.strand_hosting.specs.StrandWorldsTold.{AreStrandsBegun, AreStrandsEnded, AreStrandsTold, NamedStrands, strand_worlds}

@@ -5,7 +5,6 @@ use Rattle.wa_model.specs.declared.answers.Area.{Area}
 use Rattle.wa_model.specs.View.{answer_line_of}
 use Rattle.pause_host.specs.Programs.{named_entries, source_of}
 use Rattle.script_model.specs.Script.{EntryText, StrandText}
-use Rattle.script_reader.specs.Views.{show_of}
 use Rattle.script_setup.specs.Bindings.{bindings}
 use Rattle.script_setup.specs.SetUpRules.{named_entry}
 use Rattle.strand_host.specs.declared.plan.StrandPart.{StrandPart}

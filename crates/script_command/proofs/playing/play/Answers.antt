@@ -1,5 +1,4 @@
 -- What is opened is played, by whether it has strands.
-use Rattle.std.proofs.Common.{sym}
 use Rattle.script_command.proofs.NoStrands.{plainly_ready}
 use Rattle.script_command.proofs.playing.play.Goals as goal
 

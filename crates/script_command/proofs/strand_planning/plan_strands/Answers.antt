@@ -5,9 +5,8 @@ use Rattle.std.specs.Global.{Vec}
 use Rattle.wa_types.specs.declared.syntax.Module.{Module as ModuleValue}
 use Rattle.wa_types.specs.View.{module_of}
 use Rattle.host_setup.specs.declared.entries.Entry.{Entry}
-use Rattle.pause_host.specs.declared.plan.Plan.{Plan}
 use Rattle.script_reader.specs.declared.script.ProgramText.{ProgramText}
-use Rattle.script_reader.specs.Views.{bind_of, entry_of, program_of, show_of, strand_of}
+use Rattle.script_reader.specs.Views.{bind_of, entry_of, program_of, show_of}
 use Rattle.script_setup.specs.Bindings.{bindings}
 use Rattle.script_setup.specs.SetUpRules.{named_entry}
 use Rattle.script_setup.specs.declared.setting.SetUp.{SetUp}

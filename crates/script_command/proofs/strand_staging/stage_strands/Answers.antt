@@ -1,6 +1,5 @@
 -- A program of a script, staged with all its strands.
 use Rattle.std.proofs.Common.{◌∙◌, ap}
-use Rattle.std.proofs.lemmas.Result.{IfOk-weaker}
 use Rattle.wa_types.specs.View.{module_of}
 use Rattle.script_reader.specs.Views.{program_of}
 use Rattle.script_setup.specs.Bindings.{bindings}
