@@ -3,11 +3,13 @@ pub mod Choices
 mod Declared
 pub mod Ending
 pub mod Endings
+pub mod FewStrandLines
 pub mod GatheredStrands
 pub mod GoingOver
 mod Hosted
 pub mod JoinedRuns
 pub mod JoinedTexts
+pub mod LinesOfStrands
 mod MailToldOf
 pub mod NoStrands
 pub mod OfOriginals
@@ -16,8 +18,10 @@ pub mod OneRead
 pub mod Openings
 pub mod Originals
 pub mod OtherDevices
+pub mod OutcomesOfStrands
 pub mod PlainOpenings
 pub mod PlannedParts
+pub mod PlansOfStrands
 pub mod Played
 pub mod PlayedTurns
 pub mod Prepared
@@ -44,7 +48,11 @@ pub mod StrandFaults
 pub mod StrandGoes
 pub mod StrandLogs
 pub mod StrandOriginals
+pub mod StrandTexts
 pub mod StrandToldOf
+pub mod StrandTurnCounts
 pub mod StrandTurns
+pub mod StrandsPrinted
+pub mod StrandsSetUp
 pub mod Unbinding
 pub mod WholeScripts

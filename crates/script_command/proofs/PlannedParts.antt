@@ -33,9 +33,9 @@ use Rattle.strand_laws.specs.StrandWorld.{StrandsInWorld}
 use Rattle.strand_host.specs.declared.plan.StrandPart.{StrandPart}
 use Rattle.strand_host.specs.declared.plan.StrandPlan.{StrandPlan}
 use Rattle.strand_host.specs.StrandPlans.{AllSetUp, AreasApart, IsPart, IsStrandPlan, entries_of, first_part, lines_of, parts_of, strands_with, world_strands}
-use Rattle.strand_hosting.specs.declared.strand_staging.StagedStrands.{StagedStrands}
-use Rattle.strand_hosting.specs.StrandStages.{IsStrandsStaged, range_look}
-use Rattle.strand_hosting.specs.StrandWorldsTold.{NamedStrands}
+use Rattle.script_command.specs.declared.strand_starts.StagedStrands.{StagedStrands}
+use Rattle.script_command.specs.StrandStages.{IsStrandsStaged, range_look}
+use Rattle.script_command.specs.StrandWorldsTold.{NamedStrands}
 use Rattle.world_hosting.specs.Views.{listing}
 use Rattle.world_hosting.specs.Worlds.{FitsPlan, FitsStrand, IsListing, Part, look_at}
 use Rattle.script_command.specs.declared.strand_planning.PlannedStrands.{PlannedStrands}

@@ -1,8 +1,8 @@
 -- Programs with strands that are staged one after another, over the parts of a script.
 use Rattle.std.proofs.Common.{List, [], ◌∷◌, map}
 use Rattle.std.specs.List.{AllZip}
-use Rattle.strand_hosting.specs.declared.strand_staging.StagedStrands.{StagedStrands}
-use Rattle.strand_hosting.specs.StrandStages.{AreStrandsStaged, IsStrandsStaged}
+use Rattle.script_command.specs.declared.strand_starts.StagedStrands.{StagedStrands}
+use Rattle.script_command.specs.StrandStages.{AreStrandsStaged, IsStrandsStaged}
 use Rattle.world_hosting.specs.Worlds.{Part}
 use Rattle.script_command.specs.StrandTold.{named_strands}
 

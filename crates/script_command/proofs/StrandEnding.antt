@@ -9,7 +9,7 @@ use Rattle.wa_model.specs.declared.answers.Detach.{Detach}
 use Rattle.script_model.specs.Script.{strand_line}
 use Rattle.event_order.specs.Left.{Counted}
 use Rattle.transcript.specs.Refused.{EndsInMemory}
-use Rattle.strand_hosting.specs.StrandWorldsTold.{AreStrandsBegun, AreStrandsEnded, AreStrandsTold, NamedStrands, PrintsStrands, PrintsStrandsPart}
+use Rattle.script_command.specs.StrandWorldsTold.{AreStrandsBegun, AreStrandsEnded, AreStrandsTold, NamedStrands, PrintsStrands, PrintsStrandsPart}
 use Rattle.script_command.specs.declared.way.Way.{Way}
 use Rattle.script_command.specs.Playing.{Play, detaches_in}
 use Rattle.script_command.specs.StrandTold.{strands_played}

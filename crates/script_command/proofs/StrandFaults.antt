@@ -1,6 +1,5 @@
 -- Faults of devices that the lines of strands tell are counted.
-use Rattle.std.proofs.Common.{arith, ◌≡◌, ◌<◌, ◌≤◌, ◌+◌, ◌-◌, inl, ℕ, zero, suc, List, [], ◌∷◌, ◌++◌, length, map, Option, Some, None, Bool, true, false, refl, sym, ap, ◌∙◌, subst}
-use Rattle.std.proofs.Common.{ltb-true, ltb-false}
+use Rattle.std.proofs.Common.{arith, ◌≡◌, ◌<◌, ◌≤◌, ◌+◌, ◌-◌, inl, ℕ, zero, suc, List, [], ◌∷◌, ◌++◌, length, map, Option, Some, None, Bool, true, false, refl, sym, ap, ◌∙◌, subst, ltb-true, ltb-false}
 use Rattle.std.specs.Prelude.{if◌then◌else◌, nat_eq, nat_lt, slice_get}
 use Rattle.std.specs.List.{AllZip}
 use Rattle.std.specs.Option.{option_map}
@@ -18,12 +17,11 @@ use Rattle.host_laws.specs.Supplies.{Supply, Takes}
 use Rattle.many_host.specs.Calls.{TakesCall, devices_of, faults_of, left_at}
 use Rattle.many_host.specs.Telling.{supply}
 use Rattle.strand_laws.specs.Strands.{Strand, StrandProgram, strand_at}
-use Rattle.strand_laws.specs.StrandWorld.{HeldStrands, ProtocolStrandWorld, Staged, StartsStrands, StrandLine, StrandsInWorld, joined, last_strand, looks_if, notes_of, strand_actors}
-use Rattle.strand_laws.specs.StrandWorld.{strand_in, strand_line, strand_lines, strand_program, strand_programs}
+use Rattle.strand_laws.specs.StrandWorld.{HeldStrands, ProtocolStrandWorld, Staged, StartsStrands, StrandLine, StrandsInWorld, joined, last_strand, looks_if, notes_of, strand_actors, strand_in, strand_line, strand_lines, strand_program, strand_programs}
 use Rattle.strand_laws.specs.Woven.{Told}
 use Rattle.strand_host.specs.StrandCalls.{TakesStrandCall}
-use Rattle.strand_hosting.specs.StrandCounts.{TookStrands, strand_turn_count}
-use Rattle.strand_hosting.specs.StrandTranscripts.{program_line}
+use Rattle.script_command.specs.StrandCounts.{TookStrands, strand_turn_count}
+use Rattle.script_command.specs.StrandTranscripts.{program_line}
 use Rattle.world_hosting.specs.Counts.{IsBegunBy, Took, closes, ended_in}
 use Rattle.world_hosting.specs.FaultCounts.{CountsTo, event_at, failed_by, failed_in, one_more_if, with_told}
 use Rattle.world_hosting.proofs.CountedNotes.{Goes}

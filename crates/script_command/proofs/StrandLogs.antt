@@ -12,8 +12,8 @@ use Rattle.many_host.specs.Calls.{TakesCall, devices_of}
 use Rattle.strand_laws.specs.Strands.{Strand}
 use Rattle.strand_laws.specs.StrandWorld.{StrandLine, StrandsInWorld, strand_program}
 use Rattle.strand_host.specs.StrandCalls.{TakesStrandCall}
-use Rattle.strand_hosting.specs.StrandCounts.{TookStrands, strand_turn_count}
-use Rattle.strand_hosting.specs.StrandTranscripts.{program_line}
+use Rattle.script_command.specs.StrandCounts.{TookStrands, strand_turn_count}
+use Rattle.script_command.specs.StrandTranscripts.{program_line}
 use Rattle.world_hosting.specs.Counts.{Took, closes}
 use Rattle.world_hosting.specs.DeviceLogs.{answered_calls, device_log, taken_by, with_logs}
 use Rattle.world_hosting.specs.Worlds.{turn_count}

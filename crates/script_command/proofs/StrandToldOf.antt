@@ -12,9 +12,9 @@ use Rattle.script_model.specs.Transcript.{Names}
 use Rattle.event_order.specs.Left.{Counted}
 use Rattle.transform_command.proofs.OneOriginal.{one_original}
 use Rattle.strand_laws.specs.StrandWorld.{BlockingStrandWorld, ProtocolStrandWorld, StrandLine, StrandsInWorld}
-use Rattle.strand_hosting.specs.StrandCounts.{strand_turn_count}
-use Rattle.strand_hosting.specs.StrandTranscripts.{StrandTranscript}
-use Rattle.strand_hosting.specs.StrandWorldsTold.{all_strand_names, strand_worlds}
+use Rattle.script_command.specs.StrandCounts.{strand_turn_count}
+use Rattle.script_command.specs.StrandTranscripts.{StrandTranscript}
+use Rattle.script_command.specs.StrandWorldsTold.{all_strand_names, strand_worlds}
 use Rattle.world_hosting.specs.OriginalRuns.{Source}
 use Rattle.world_hosting.specs.Worlds.{HasRanges, Part}
 use Rattle.script_command.specs.declared.way.Way.{Way}

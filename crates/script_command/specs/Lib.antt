@@ -16,12 +16,17 @@ pub mod SnapshotCalls
 pub mod SnapshotEnds
 pub mod SnapshotTelling
 pub mod SnapshotViews
+pub mod StrandCounts
 pub mod StrandFaults
 pub mod StrandLogs
 pub mod StrandOriginals
+pub mod StrandParts
+pub mod StrandStages
 pub mod StrandTold
+pub mod StrandTranscripts
 pub mod StrandViews
 pub mod StrandWorlds
+pub mod StrandWorldsTold
 pub mod Told
 pub mod Transcripts
 pub mod Views

@@ -4,7 +4,7 @@ use Rattle.std.specs.List.{AllZip}
 use Rattle.wa_model.specs.declared.answers.Detach.{Detach}
 use Rattle.event_order.specs.Left.{Counted}
 use Rattle.strand_laws.specs.StrandWorld.{StrandLine, StrandsInWorld}
-use Rattle.strand_hosting.specs.StrandTranscripts.{program_line}
+use Rattle.script_command.specs.StrandTranscripts.{program_line}
 use Rattle.world_hosting.specs.FaultCounts.{CountsTo, with_told}
 use Rattle.script_command.specs.StrandLogs.{asking}
 

@@ -5,7 +5,7 @@ use Rattle.wa_model.specs.Plan.{Outcome}
 use Rattle.world_model.specs.World.{Device, Program}
 use Rattle.strand_laws.specs.Strands.{strand_at}
 use Rattle.strand_laws.specs.StrandWorld.{StrandLine, StrandsInWorld, strand_program}
-use Rattle.strand_hosting.specs.StrandTranscripts.{program_line}
+use Rattle.script_command.specs.StrandTranscripts.{program_line}
 use Rattle.world_hosting.specs.DeviceLogs.{AreLogged}
 
 -- a program with strands as its calls ask devices: all strands have one module and one binding of its imports, those of the first

@@ -7,9 +7,9 @@ use Rattle.script_model.specs.Transcript.{Names}
 use Rattle.event_order.specs.Left.{Counted}
 use Rattle.many_host.specs.Calls.{devices_of}
 use Rattle.strand_laws.specs.StrandWorld.{BlockingStrandWorld}
-use Rattle.strand_hosting.specs.StrandCounts.{strand_turn_count}
-use Rattle.strand_hosting.specs.StrandTranscripts.{StrandTranscript}
-use Rattle.strand_hosting.specs.StrandWorldsTold.{AreStrandsBegun, AreStrandsEnded, AreStrandsTold, NamedStrands, strand_worlds}
+use Rattle.script_command.specs.StrandCounts.{strand_turn_count}
+use Rattle.script_command.specs.StrandTranscripts.{StrandTranscript}
+use Rattle.script_command.specs.StrandWorldsTold.{AreStrandsBegun, AreStrandsEnded, AreStrandsTold, NamedStrands, strand_worlds}
 use Rattle.world_hosting.specs.OriginalRuns.{Source}
 use Rattle.world_hosting.specs.Worlds.{Part}
 use Rattle.script_command.specs.declared.way.Way.{Way}

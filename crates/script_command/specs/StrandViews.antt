@@ -9,7 +9,7 @@ use Rattle.script_setup.specs.Bindings.{bindings}
 use Rattle.script_setup.specs.SetUpRules.{named_entry}
 use Rattle.strand_host.specs.declared.plan.StrandPart.{StrandPart}
 use Rattle.strand_host.specs.StrandPlans.{AllSetUp, AreasApart, IsStrandPlan, entries_of, lines_of, parts_of}
-use Rattle.strand_hosting.specs.StrandStages.{range_look}
+use Rattle.script_command.specs.StrandStages.{range_look}
 use Rattle.world_hosting.specs.Views.{listing}
 use Rattle.world_hosting.specs.Worlds.{Part, look_at}
 use Rattle.script_command.specs.declared.strand_planning.PlannedStrands.{PlannedStrands}

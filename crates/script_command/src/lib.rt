@@ -30,7 +30,10 @@
 //!
 //! - `way`, `modules`, `programs`, `opening`: whether modules are rewritten, a program's module, the programs in order, and the script.
 //! - `staging`, `playing`: programs over their modules, and the commands `host` and `run`.
-//! - `strand_planning`, `strand_staging`, `strand_playing`: the same of programs with further strands.
+//! - `strand_planning`, `strand_starts`, `strand_staging`: programs with further strands: the plan of one, one made of its plan, and all of a script.
+//! - `strand_parting`, `strand_hosting`, `strand_printing`, `strand_telling`: these parted in what hosts them and what prints their lines, a host of
+//!   them, a single line, and all of them told to their ends (`specs/StrandWorldsTold.antt`, `specs/StrandTranscripts.antt`).
+//! - `strand_playing`: a script with strands, played (`specs/StrandTold.antt`).
 //! - `plain_scripts`, `stop`: scripts without devices, mailboxes and strands, opened; and why a call stops before it is done.
 //! - `saving`, `files`: the first events, and the snapshot's file.
 //! - `resuming`, `continuing`: programs that stand for their records, and what they tell from there.
@@ -51,9 +54,14 @@ mod resuming;
 mod saving;
 mod staging;
 mod stop;
+mod strand_hosting;
+mod strand_parting;
 mod strand_planning;
 mod strand_playing;
+mod strand_printing;
 mod strand_staging;
+mod strand_starts;
+mod strand_telling;
 mod verdicts;
 mod way;
 

@@ -2,14 +2,14 @@
 
 ghost use Rattle.std.specs.Prelude.{◌≡◌, IfOk, map};
 ghost use Rattle.std.specs.List.{AllZip};
-ghost use Rattle.strand_hosting.specs.StrandStages.{AreStrandsStaged, IsStrandsStaged};
+ghost use Rattle.script_command.specs.StrandStages.{AreStrandsStaged, IsStrandsStaged};
 ghost use Rattle.script_command.specs.StrandTold.{named_strands};
 ghost use Rattle.script_command.specs.Views.{CanOpen, part_of, parts_of};
 
 use crate::programs::Planned;
 use crate::strand_planning::{all_names, plan_strands};
+use crate::strand_starts::{StagedStrands, stage_strand_plan};
 use std::alloc::{AllocError, Global};
-use strand_hosting::{StagedStrands, stage_strand_plan};
 use wasm_validate::Valid;
 
 /// The programs that are planned over these modules, with all their strands, of which none has told anything.

@@ -3,7 +3,7 @@ use Rattle.std.proofs.Common.{refl}
 use Rattle.script_reader.specs.declared.script.ShowText.{ShowText}
 use Rattle.script_reader.specs.Views.{show_of}
 use Rattle.script_setup.proofs.Gathered.{map_all}
-use Rattle.strand_hosting.specs.StrandStages.{range_look}
+use Rattle.script_command.specs.StrandStages.{range_look}
 use Rattle.world_hosting.specs.Worlds.{look_at}
 use Rattle.script_command.proofs.GatheredStrands.{made_next}
 use Rattle.script_command.proofs.strand_planning.shown_ranges.Goals as goal

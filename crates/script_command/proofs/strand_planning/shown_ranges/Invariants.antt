@@ -1,7 +1,7 @@
 use Rattle.std.proofs.Common.{◌≡◌, map, take}
 use Rattle.script_reader.specs.declared.script.ShowText.{ShowText}
 use Rattle.script_reader.specs.Views.{show_of}
-use Rattle.strand_hosting.specs.StrandStages.{range_look}
+use Rattle.script_command.specs.StrandStages.{range_look}
 use Rattle.world_hosting.specs.Worlds.{look_at}
 use Rattle.script_command.proofs.strand_planning.shown_ranges.Given as goal
 

@@ -1,6 +1,0 @@
-use Rattle.std.proofs.Common.{◌≡◌, ◌++◌, map, take}
-use Rattle.strand_hosting.specs.StrandParts.{range_at}
-use Rattle.strand_hosting.proofs.strand_parting.put_ranges.Given as goal
-
-abbrev pub invariant-loop-range : goal.invariant-loop-range
-invariant-loop-range l = l.shows.items ≡ l.fn.shows.items ++ map (range_at l.program) (take l.range-index l.ranges)

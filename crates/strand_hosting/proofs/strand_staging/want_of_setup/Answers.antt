@@ -1,5 +1,0 @@
-use Rattle.strand_hosting.proofs.PlansOfStrands.{blames_memory}
-use Rattle.strand_hosting.proofs.strand_staging.want_of_setup.Goals as goal
-
-pub unreachable-requires : goal.unreachable-requires
-unreachable-requires c = blames_memory c.args.fault c.requires.0 c.requires.1 c.in_default.not-Memory
