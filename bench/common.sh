@@ -7,11 +7,10 @@ trap 'rm -rf "$temp"' EXIT
 failed=0
 export PYTHONPATH=$bench PYTHONDONTWRITEBYTECODE=1
 
-# The program `asyncify`, which is built first where it isn't there or is older than its sources.
+# The program `asyncify`, which is proved and built first where it isn't there or is older than its sources.
 asyncify=$bench/../crates/asyncify_cli/out/asyncify_cli
 build_asyncify() {
-    "$bench/../asyncify" >/dev/null || true
-    [ -x "$asyncify" ]
+    "$bench/../asyncify" --prove
 }
 
 # Proves and builds the loops of bench/loops, which are no crate of the repository, in a copy of it that has one crate more, and puts
@@ -88,4 +87,16 @@ for _ in range(runs):
         taken.append(resource.getrusage(resource.RUSAGE_CHILDREN).ru_utime - before)
 print("%.3f %.3f" % tuple(statistics.median(taken) for taken in times))
 PY
+}
+
+# The least stack, in steps of 4 KiB up to 8 MiB, with which a command ends with a status: STATUS COMMAND [WORD ...]
+least_stack() {
+    local wanted=$1 low=0 high=2048 middle status
+    shift
+    while [ $((high - low)) -gt 1 ]; do
+        middle=$(((low + high) / 2)) status=0
+        { (ulimit -s $((4 * middle)) && exec "$@" >/dev/null 2>&1); } 2>/dev/null || status=$?
+        if [ "$status" = "$wanted" ]; then high=$middle; else low=$middle; fi
+    done
+    echo $((4 * high))
 }

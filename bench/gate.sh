@@ -3,21 +3,11 @@
 # with. With no argument it runs `rt ci --anew`; with names of crates, `rt ci --anew NAME ..`; with a file it reads what an
 # earlier run of this script wrote. The run's log stays in bench/out. `rt` tells no times: they are those of its processes,
 # looked at five times a second, so a crate may lack a fifth of a second for each; the sum is the system's own, and exact.
-# Fails where `rt ci` does; where the crates that stood before flattening, and those that were split off them since, pass 90
-# minutes together; where all of it passes 300, of the 360 that a run of three hours has on two processors; or where the proof
-# of a crate passes 60 seconds that isn't among those that are known to. The bars hold for a run of all crates.
+# Fails where `rt ci` does; where the crates that stood before flattening pass 90 minutes together; or where all of it passes
+# 300, of the 360 that a run of three hours has on two processors. The bars hold for a run of all crates.
 . "$(dirname "$0")/common.sh"
-known="asyncify_app asyncify_cli asyncify_runtime build_entries build_types call_classes call_graph call_sizes command_line command_shapes command_words
-    flat_bodies flat_instrs flat_jumps flat_names flat_pieces flatten frame_sizes func_rewrite gen_command gen_module generated_runs host_moves
-    host_pauses host_setup import_lists interp interp_jumps interp_make interp_program interp_reduce interp_state line_words live_locals live_passes
-    live_rewrite live_words many_host module_bytes module_copy module_files module_rewrite pause_host plan_parts script_command script_lines
-    script_opening script_reader script_setup slim_guesses slim_pieces slim_steps slim_walk source_modules transcript transform_command turn_taking
-    unit_pieces validate_bodies validate_rules validate_spaces vault_port wa_model wa_ops wa_types wasm_build wasm_encode wasm_entries wasm_goals
-    wasm_grammar wasm_reader wasm_validate world_hosting"
-old="wa_types file_laws wa_ops page_memory wa_model instr_tables validate_spaces validate_table validate_bodies validate_rules validate_modules
-    interp_state interp_program interp_make interp_jumps interp_reduce wasm_tree module_copy wasm_window wasm_cursor wasm_goals wasm_grammar wasm_marks build_types build_instrs build_code build_entries wasm_build wasm_reader wasm_validate encode_types encode_code wasm_entries wasm_encode import_lists call_graph asyncify_runtime
-    leb_numbers vault_port memory_vaults system_vaults interp asyncify_app asyncify_cli command_words printing source_modules round_trip
-    definition_check"
+old="asyncify_app asyncify_cli call_graph checks command_words file_laws interp interp_state leb_numbers local_spill memory_vaults page_memory transcript
+    transform_command validate_bodies vault_port wa_model wa_ops wa_types wasm_build wasm_encode wasm_grammar wasm_reader wasm_validate"
 mkdir -p "$bench/out"
 log=$bench/out/gate.log
 
@@ -83,10 +73,10 @@ if [ -f "${1:-}" ]; then
 else
     (cd "$bench/.." && run_gate "$@") 2>&1 | tee "$log"
 fi
-python3 - "$log" "$known" "$old" <<'PY' || failed=1
+python3 - "$log" "$old" <<'PY' || failed=1
 import collections, re, sys
 
-lines, known, old = open(sys.argv[1], errors="replace").read().splitlines(), *map(str.split, sys.argv[2:])
+lines, old = open(sys.argv[1], errors="replace").read().splitlines(), sys.argv[2].split()
 old_bar, whole_bar = 90, 300
 seconds, whole = collections.defaultdict(dict), None
 for line in lines:
@@ -114,10 +104,7 @@ print("%.1f processor minutes in the crates before flattening, of at most %d" % 
 print("%.1f in those since" % ((sum(kinds) - of_old) / 60))
 print("%.1f in all, with what rt itself takes, of at most %d" % (whole / 60, whole_bar))
 long = [crate for crate, by in seconds.items() if by.get("proof", 0) > 60]
-new = [crate for crate in long if crate not in known]
 print("over 60 s from nothing: %s" % (" ".join(sorted(long)) or "none"))
-if new:
-    print("and not known to be: %s" % " ".join(sorted(new)))
-sys.exit(failed or of_old > old_bar * 60 or whole > whole_bar * 60 or bool(new))
+sys.exit(failed or of_old > old_bar * 60 or whole > whole_bar * 60)
 PY
 exit $failed

@@ -1,8 +1,8 @@
 #!/usr/bin/env python3
 """Proves the libraries of a checkout side by side, for work: ROOT [LANES] [NAME ..].
 
-With names, these crates and what is below them. Prints the seconds of each crate as it ends; the log of each is out/libraries.log in its
-folder. It is no gate, and uses the insides of the kit's `rt`: what it leaves is what `rt check` would build, but each crate's files are summed
+With names, these crates and what is below them. Prints the seconds of each crate as it ends, and how many are done; the log of each is
+out/libraries.log in its folder. It is no gate, and uses the insides of the kit's `rt`: what it leaves is what `rt check` would build, but each crate's files are summed
 up once a run."""
 
 import copy
@@ -37,7 +37,21 @@ def sum_once(crate_type):
     crate_type.stamp = stamp
 
 
-def build(crate, given, jobs, begun):
+class Progress:
+    """How many of the libraries are done, and since when."""
+
+    def __init__(self, total):
+        self.begun, self.done, self.total = time.time(), 0, total
+
+    def seconds(self):
+        return time.time() - self.begun
+
+    def tell(self, name, word, seconds):
+        self.done += 1
+        print(f"{self.seconds():6.0f} s: {name} {word} in {seconds:.0f} s, {self.done} of {self.total}", flush=True)
+
+
+def build(crate, given, jobs, progress):
     """Builds one library, unless one below it failed, and returns whether it is there."""
     if crate.is_program or not all(given[it.name] for it in crate.below()):
         return crate.is_program
@@ -48,8 +62,7 @@ def build(crate, given, jobs, begun):
             status = crate.build_rlib(["--jobs", str(jobs)], anew=False)
         except SystemExit as stopped:
             status = stopped.code or 1
-    word = "ok" if status == 0 else "FAILED"
-    print(f"{time.time() - begun:6.0f} {crate.name} {word} {time.time() - started:.0f} s", flush=True)
+    progress.tell(crate.name, "ok" if status == 0 else "FAILED", time.time() - started)
     return status == 0
 
 
@@ -61,15 +74,15 @@ def main(root, lanes, names):
     rt.processors = lambda: lanes
     crates = sorted(rt.rtlib.crates_below(os.getcwd()), key=lambda it: len(it.below()))
     wanted = {below.name for it in crates if it.name in names for below in [it, *it.below()]} or {it.name for it in crates}
-    begun = time.time()
+    progress = Progress(sum(it.name in wanted and not it.is_program for it in crates))
     tasks = {
-        it.name: ([below.name for below in it.below()], it.count(rb"\n"), rt.need(it), lambda given, jobs, it=it: build(it, given, jobs, begun))
+        it.name: ([below.name for below in it.below()], it.count(rb"\n"), rt.need(it), lambda given, jobs, it=it: build(it, given, jobs, progress))
         for it in crates
         if it.name in wanted
     }
     given = rt.in_lanes(tasks)
     used = resource.getrusage(resource.RUSAGE_CHILDREN)
-    print(f"{time.time() - begun:6.0f} s by the clock, {used.ru_utime + used.ru_stime:.0f} of processors")
+    print(f"{progress.seconds():6.0f} s by the clock, {used.ru_utime + used.ru_stime:.0f} of processors")
     return 0 if all(given.values()) else 1
 
 

@@ -1,6 +1,8 @@
 #!/usr/bin/env bash
 # Times `asyncify transform --save live`, the least of RUNS runs (3), at a quarter, half and the whole of a size: loops nested 500 deep with a
-# call inside, the same with 2 KB of code in each, 10,000 calls of one function, 49,000 locals and 100 calls; SHAPES names the shapes. Then beside `--save all` on ordinary
+# call inside, the same with 2 KB of code in each, 10,000 calls of one function, 49,000 locals and 100 calls, 10,000 locals each of which is read
+# behind one call more than the one before (`reads`); SHAPES names the shapes, and may name one whose time and memory aren't linear: 10,000 results
+# of calls left on the operand stack (`left`). Then beside `--save all` on ordinary
 # functions with several calls each (2 MB): user time and length of what is written. At last the bytes that a pause takes in a few programs, by
 # either policy and as `wasm-opt -O2 --asyncify` (Debian's binaryen) writes them.
 # Fails where twice the size takes more than 2.6 times the time, past 1.3 times the time of `--save all`, and past 1.1 times its length.
@@ -49,6 +51,11 @@ elif shape == "calls":
 elif shape == "locals":
     count = 12_250 * quarters
     bodies = [body(GET + (PAUSE + ADD) * 100, b"\x01" + unsigned(count) + b"\x7f")]
+elif shape == "left":
+    bodies = [body(PAUSE * (2_500 * quarters) + ADD * (2_500 * quarters - 1))]
+elif shape == "reads":
+    count = 2_500 * quarters
+    bodies = [body(GET + b"".join(PAUSE + ADD + b"\x20" + unsigned(1 + i) + ADD for i in range(count)), b"\x01" + unsigned(count) + b"\x7f")]
 elif shape == "ordinary":
     bodies = [ordinary(i) for i in range(4_500 * quarters)]
 count = len(bodies)
@@ -93,7 +100,7 @@ tell_pause() {
 }
 
 build_asyncify
-for shape in ${SHAPES:-loops heavy calls locals}; do
+for shape in ${SHAPES:-loops heavy calls locals reads}; do
     before=
     for part in 1 2 4; do
         make_module "$shape" "$part" "$temp/in.wasm"

@@ -86,18 +86,6 @@ open(sys.argv[2], "wb").write(module(*parts))
 PY
 }
 
-# The least stack, in steps of 4 KiB up to 8 MiB, with which a command ends with a status: STATUS COMMAND [WORD ...]
-least_stack() {
-    local wanted=$1 low=0 high=2048 middle status
-    shift
-    while [ $((high - low)) -gt 1 ]; do
-        middle=$(((low + high) / 2)) status=0
-        { (ulimit -s $((4 * middle)) && exec "$@" >/dev/null 2>&1); } 2>/dev/null || status=$?
-        if [ "$status" = "$wanted" ]; then high=$middle; else low=$middle; fi
-    done
-    echo $((4 * high))
-}
-
 build_loops "$temp/loops"
 make_nested 1000 "$temp/in.wasm"
 kibibytes=$(least_stack 7 "$asyncify" transform "$temp/in.wasm" "$temp/out.wasm")

@@ -2,7 +2,8 @@
 # How large written modules are and what a run of them costs, beside `wasm-opt --asyncify` (Debian's binaryen), plain and with -O2 before and
 # behind: of the modules of tests/ and examples/ in which something may pause, and of programs/*.c by clang and lld (with libstb-dev and
 # libxxhash-dev), of which picture.c has some 90 KB. Costs are the steps that `asyncify host` takes for a run in which nothing pauses. Fails
-# where one of ours isn't smaller than plain, or where ours have more bytes than with -O2 in the mean. The module made for the limit on locals
+# where one of ours isn't smaller than plain, or where ours have more bytes than with -O2 in the mean, or with asserts more than 1.02 of without
+# in the mean, nothing ignored or calls through a table. The module made for the limit on locals
 # stands apart, since the policy `all` saves each of its 49,996 locals, which nothing reads.
 . "$(dirname "$0")/common.sh"
 build_asyncify
@@ -96,7 +97,17 @@ def plain_cost(name):
 
 row = "{:<28}{:>9}{:>9}{:>9}{:>9}{:>9}".format
 print(row("bytes", "source", "all", "live", "peer", "peer -O2"))
-sizes, failed = [], False
+sizes, asserted, failed = [], {"": [], "--ignore-indirect": []}, False
+
+
+def with_asserts(name, ignored):
+    """How many times the bytes of without asserts a module has with them, under both policies."""
+    given = [ignored] if ignored else []
+    for save in ("all", "live"):
+        plain, tested = (written(name, [*given, *more, "--save", save], "asserts.wasm")[0] for more in ([], ["--asserts"]))
+        yield tested / plain
+
+
 for name in sorted(it[:-5] for it in os.listdir(f"{temp}/modules")):
     ours, live = written(name, [], "all.wasm"), written(name, ["--save", "live"], "live.wasm")
     if not ours or not ours[1]:
@@ -110,6 +121,8 @@ for name in sorted(it[:-5] for it in os.listdir(f"{temp}/modules")):
         print(f"{name}: {ours[0]} bytes aren't fewer than the peer's {plain}")
         failed = True
     sizes.append((ours[0], live[0], best))
+    for ignored, ratios in asserted.items():
+        ratios.append(tuple(with_asserts(name, ignored)))
     if name in RUNS:
         costs = [cost(it, name) for it in ("all.wasm", "live.wasm", "plain.wasm", "best.wasm")]
         print(row("  steps of a run", plain_cost(name), *costs))
@@ -119,6 +132,13 @@ print(f"in the mean of {len(sizes)} modules {ours:.0f} bytes, under live {live:.
 if ours > best:
     print("larger than the peer's with -O2")
     failed = True
+for ignored, ratios in asserted.items():
+    mean = [math.exp(sum(map(math.log, it)) / len(it)) for it in zip(*ratios)]
+    most = max(max(it) for it in ratios)
+    print(f"with asserts {ignored or 'and nothing ignored'}: {mean[0]:.4f} times the bytes of without, under live {mean[1]:.4f}; {most:.3f} at most")
+    if max(mean) > 1.02:
+        print("asserts take more than a fiftieth")
+        failed = True
 sys.exit(failed)
 PY
 exit $failed

@@ -1,4 +1,4 @@
-//! The loop of the crate `memory_bench` over a plain slice, for `memory.sh`.
+//! The loops `memory` and `copies` of `bench/loops` over a plain slice, for `memory.sh`.
 
 /// The number at an address, or None past the end.
 fn load(bytes: &[u8], addr: u64, width: u32) -> Option<u64> {
@@ -46,7 +46,28 @@ fn exercise(memory: &mut [u8], rounds: u64, width: u32) -> u64 {
     sum
 }
 
+fn copies(memory: &mut [u8], rounds: u64) -> u64 {
+    let mut state = 1;
+    let mut sum = 0u64;
+    for _ in 0..rounds {
+        state = next(state);
+        let (at, len) = ((state >> 45) as usize, (state >> 48) as usize);
+        memory[at..at + len].fill((state >> 56) as u8);
+        state = next(state);
+        let from = (state >> 45) as usize;
+        state = next(state);
+        let (at, len) = ((state >> 45) as usize, (state >> 48) as usize);
+        memory.copy_within(from..from + len, at);
+        sum = sum.wrapping_add(load(memory, state >> 45, 8).unwrap_or(1));
+    }
+    sum
+}
+
 fn main() {
+    if let Some(rounds) = std::env::args().nth(2).and_then(|word| word.parse::<u64>().ok()) {
+        println!("{}", copies(&mut vec![0u8; 16 * 65_536], rounds));
+        return;
+    }
     let rounds = std::env::args()
         .nth(1)
         .and_then(|word| word.parse::<u64>().ok())

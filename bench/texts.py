@@ -2,9 +2,9 @@
 """Looks at the texts of all crates as `rt ci` does before it proves anything, in half a minute: ROOT.
 
 Layouts, links, files that no check reads, words that would mislead, must-fail edits that can't be applied; and what the gate would meet only after
-half an hour: definitions and lemmas of another crate that stand nowhere, crates that are named and not listed in crates.txt, and how many bytes the
-gate sums up, since `rt` sums up a crate's files once for each way through the libraries of crates.txt, which may double with each crate. Uses the
-insides of the kit's `rt`, and proves nothing."""
+half an hour: definitions and lemmas of another crate that stand nowhere, crates that are named and not listed in crates.txt, lines of crates.txt
+that name a crate below them, and how many bytes the gate sums up, since `rt` sums up a crate's files once for each way through the libraries of
+crates.txt, which may double with each crate. Uses the insides of the kit's `rt`, and proves nothing."""
 
 import glob
 import os
@@ -18,7 +18,7 @@ from libraries import KIT_RT, load  # noqa: E402
 CITED = re.compile(r"Rattle\.([a-z_0-9]+)\.(specs|proofs)\.([A-Za-z_0-9]+)")
 PASSED_ON = re.compile(r"^pub use \S+\.(\w+)$|^pub use \S+ as (\w+)$", re.M)
 # The bytes that the gate may sum up, in thousands of millions: some 40 MB a second, once before and once behind each library's proof.
-SUMMED = 40
+SUMMED = 60
 
 
 def said_of(rt, crate, crates):
@@ -40,7 +40,7 @@ def said_of(rt, crate, crates):
             found.append(out.read().strip().split("\n")[0])
     good, bad = rt.edits_of(crate)
     found += [f"{it} is no edit" for it in bad]
-    for it in good:
+    for it in [*good, *sorted(glob.glob(f"{crate.folder}/../../bench/edits/{crate.name}/*.edit"))]:
         with open(it, encoding="utf-8") as file:
             texts, why = rt.edited(file.read(), crate.folder)
         if texts is None:
@@ -87,11 +87,23 @@ def lacking(crate, crates):
     return sorted(found)
 
 
+def out_of_order(path):
+    """Each line of crates.txt that names a crate which has its own line below: the two names."""
+    with open(path, encoding="utf-8") as file:
+        rows = [line.partition("#")[0].partition(":") for line in file]
+    uses = {head.split()[0]: rest.split() for head, _, rest in rows if head.strip()}
+    place = {name: at for at, name in enumerate(uses)}
+    return [(name, it) for name in uses for it in uses[name] if place.get(it, -1) >= place[name]]
+
+
 def main(root):
     rt = load(KIT_RT)
     os.chdir(root)
     crates = rt.rtlib.crates_below(os.getcwd())
     by_name, wrong = {it.name: it for it in crates}, 0
+    for name, below in out_of_order("crates.txt"):
+        print(f"crates.txt: the line of {name} names {below}, which stands below it")
+        wrong += 1
     for crate in crates:
         for it in [*said_of(rt, crate, crates), *lacking(crate, by_name)]:
             print(f"{crate.name}: {it}")

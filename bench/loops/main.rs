@@ -2,6 +2,8 @@
 //!
 //! - `memory ROUNDS`, for `memory.sh`: so many loads and stores through `Pages`. Writes the sum of what was loaded, the
 //!   same as `bench/slice.rs`.
+//! - `copies ROUNDS`, for `memory.sh`: so many fills and copies through `Pages`. Writes the sum of what they leave, the same as
+//!   `bench/slice.rs`.
 //! - `encode IN OUT`, for `encode.sh`: reads the module in the file IN, within the bounds of prepared modules, and writes
 //!   it into the file OUT. Writes how many bytes it has.
 //! - `read IN`, for `read.sh`: reads the module in the file IN in pieces, within the bounds of prepared modules, and drops
@@ -17,9 +19,9 @@ mod running;
 
 use anyhow::bail;
 use interp::Turn;
-use memory::sum_of;
-use module_files::read_file;
-use round_trip::rewrite;
+use memory::{sum_of, sum_of_copies};
+use wasm_reader::read_file;
+use checks::rewrite;
 use running::run;
 use std::env;
 use std::rt::{Env, Files};
@@ -42,19 +44,21 @@ fn main(rt: HostRuntime) -> anyhow::Result<()> {
     match words.as_slice() {
         [] => each_once(&rt),
         [word, input] if word.as_str() == "memory" => loads(&rt, input.as_str().parse::<u64>()?),
+        [word, input] if word.as_str() == "copies" => copies(&rt, input.as_str().parse::<u64>()?),
         [word, input, output] if word.as_str() == "encode" => encodes(&rt, input, output),
         [word, input] if word.as_str() == "read" => reads(&rt, input),
         [word, input] if word.as_str() == "interp" => {
             let bytes = fetched(&rt, input)?;
             runs(&rt, &bytes)
         }
-        _ => bail!("the words are memory ROUNDS, encode IN OUT, read IN or interp IN"),
+        _ => bail!("the words are memory ROUNDS, copies ROUNDS, encode IN OUT, read IN or interp IN"),
     }
 }
 
 /// Each loop, over little.
 fn each_once<R: Files + Print + AllocGlobal>(rt: &R) -> anyhow::Result<()> {
     loads(rt, 1_000)?;
+    copies(rt, 10)?;
     println!(rt; "bytes {}", rewrite(rt.alloc(), SEVEN)?.len())?;
     runs(rt, SEVEN)
 }
@@ -62,6 +66,13 @@ fn each_once<R: Files + Print + AllocGlobal>(rt: &R) -> anyhow::Result<()> {
 /// Loads and stores in so many rounds.
 fn loads<R: Print + AllocGlobal>(rt: &R, rounds: u64) -> anyhow::Result<()> {
     let sum = sum_of(rt.alloc(), rounds / 4)?;
+    println!(rt; "{sum}")?;
+    Ok(())
+}
+
+/// Fills and copies in so many rounds.
+fn copies<R: Print + AllocGlobal>(rt: &R, rounds: u64) -> anyhow::Result<()> {
+    let sum = sum_of_copies(rt.alloc(), rounds)?;
     println!(rt; "{sum}")?;
     Ok(())
 }

@@ -1,4 +1,4 @@
-//! Loads and stores at addresses that a linear congruence gives.
+//! Loads and stores, fills and copies at addresses that a linear congruence gives.
 
 ghost use Rattle.std.specs.Prelude.{◌≡◌, ◌⊎◌};
 
@@ -40,4 +40,21 @@ pub fn sum_of(alloc: Global, rounds: u64) -> Result<u64, AllocError> {
             .wrapping_add(words)
             .wrapping_add(doubles),
     )
+}
+
+/// The sum of what is loaded, in so many rounds of a fill and a copy of less than 65,536 bytes at addresses below 2^19.
+pub fn sum_of_copies(alloc: Global, rounds: u64) -> Result<u64, AllocError> {
+    let mut memory = Pages::new(alloc, 16, None)?;
+    let mut state = 1;
+    let mut sum = 0u64;
+    for _ in 0..rounds {
+        state = next(state);
+        memory.fill(state >> 45, (state >> 56) as u8, state >> 48);
+        state = next(state);
+        let from = state >> 45;
+        state = next(state);
+        memory.copy(state >> 45, from, state >> 48);
+        sum = sum.wrapping_add(memory.load(state >> 45, 8).unwrap_or(1));
+    }
+    Ok(sum)
 }

@@ -2,11 +2,10 @@
 
 use crate::modules::{EACH_SECTION, FUNC, module};
 use crate::showing::shown;
-use module_copy::copy_module;
+use wa_types::{Instr, copy_module};
 use std::alloc::Global;
 use std::mem;
 use std::test::Fail;
-use wa_types::Instr;
 use wasm_reader::ReadFault;
 
 /// What those sections hold.
@@ -43,14 +42,14 @@ fn code_of(alloc: Global, code: &[u8]) -> Result<Vec<Instr>, ReadFault> {
 const PLAIN: &[u8] =
     b"\x00\x01\x0c\x01\x0d\x80\x80\x80\x80\x00\x0e\x02\x00\x81\x00\x02\x0f\x10\xac\x02\x11\x02\x00\
     \x1a\x1b\x20\x01\x21\x02\x22\x03\x23\x04\x24\x05\x28\x02\x08\x35\x02\x80\x80\x04\x36\x02\x04\x3e\x02\x04\
-    \x3f\x00\x40\x00\x41\x7f\x41\xc0\x00\x42\x80\x80\x80\x80\x80\x80\x80\x80\x80\x7f\x45\x5a\x67\x8a\xa7\xac\xad\x0b";
+    \x3f\x00\x40\x00\xfc\x8a\x00\x00\x00\xfc\x0b\x00\x41\x7f\x41\xc0\x00\x42\x80\x80\x80\x80\x80\x80\x80\x80\x80\x7f\x45\x5a\x67\x8a\xa7\xac\xad\x0b";
 
 /// What they are.
 const PLAIN_READ: &str = "\
     [Unreachable, Nop, Br(1), BrIf(0), BrTable { labels: [0, 1], last: 2 }, Return, Call(300), CallIndirect(2), \
     Drop, Select, LocalGet(1), LocalSet(2), LocalTee(3), GlobalGet(4), GlobalSet(5), Load { op: 40, align: 2, \
     offset: 8 }, Load { op: 53, align: 2, offset: 65536 }, Store { op: 54, align: 2, offset: 4 }, Store { op: 62, \
-    align: 2, offset: 4 }, MemorySize, MemoryGrow, Const(I32(4294967295)), Const(I32(64)), \
+    align: 2, offset: 4 }, MemorySize, MemoryGrow, MemoryCopy, MemoryFill, Const(I32(4294967295)), Const(I32(64)), \
     Const(I64(9223372036854775808)), Num(I32Eqz), Num(I64GeU), Num(I32Clz), Num(I64Rotr), Num(I32WrapI64), \
     Num(I64ExtendI32S), Num(I64ExtendI32U)]";
 

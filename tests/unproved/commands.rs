@@ -1,8 +1,7 @@
 //! Commands over files, output and devices that fail at chosen calls.
 
 use asyncify_app::asyncify;
-use device_port::Device;
-use memory_devices::FaultAt;
+use device_port::{Device, FaultAt};
 use memory_vaults::{MemSink, MemVault, NamedFile, SureSink, SureVault};
 use std::alloc::{AllocError, Global};
 use std::test::Fail;

@@ -646,6 +646,7 @@ fn listing(choice: Choice) -> Settings {
         choice,
         ignore_indirect: false,
         policy: Policy::All,
+        asserts: false,
     }
 }
 

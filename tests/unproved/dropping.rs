@@ -2,10 +2,9 @@
 
 use crate::limits::{nested, put_blocks};
 use crate::modules::FUNC;
-use module_copy::copy_body;
+use wa_types::{Bounds, Instr, Module, copy_body, drop_body};
 use std::alloc::{AllocError, Global};
 use std::test::Fail;
-use wa_types::{Bounds, Instr, Module, drop_body};
 use wasm_build::{BuildFault, Builder};
 use wasm_reader::{ReadFault, Reader};
 

@@ -3,12 +3,11 @@
 use crate::pieces::alike;
 use crate::worked::WORKED;
 use memory_vaults::{MemVault, NamedFile, SureVault};
-use module_files::{ModuleFault, read_file};
+use wasm_reader::{ModuleFault, ReadFault, read, read_file};
 use std::alloc::{AllocError, Global};
 use std::test::Fail;
 use vault_port::{Vault, VaultFail};
 use wa_types::{Bounds, LimitKind, Module, Name};
-use wasm_reader::{ReadFault, read};
 
 /// A vault of one file, of which each fetch answers one byte.
 #[derive(Drop)]

@@ -2,7 +2,7 @@
 
 use crate::flattening::{COUNTDOWN, SELECTOR, flattened};
 use crate::showing::shown;
-use flow_rewrite::guard;
+use slim_rewrite::{guard, guard_slim};
 use std::alloc::{AllocError, Global};
 use std::test::Fail;
 use wa_model::{FlatFunc, Operand, Stmt};
@@ -210,6 +210,59 @@ fn calls_without_a_number_stand_in_pieces(rt: HostRuntime) -> Result<(), Fail> {
     assert_eq!(rt;
         shown(alloc, &guarded)?.as_str(),
         ONE_CALL_GUARDED
+    );
+    Ok(())
+}
+
+/// It as `guard_slim` writes it where no local is told as a slot, so that each operand stands in its local: runs that
+/// have passed the calls leave by labels that stand around anyway. A call in a block of its own raises labels by 2.
+const FOUR_CALLS_LEFT_BY_LABELS: &str = "[\
+    Block { result: None, body: [\
+    Block { result: None, body: [\
+    GlobalGet(7), If { result: None, then_arm: [LocalGet(4), Const(I32(0)), Num(I32Ne), BrIf(1)], else_arm: [\
+    LocalGet(0), If { result: None, then_arm: [Br(4)], else_arm: [\
+    LocalGet(0), BrTable { labels: [0, 3], last: 4 }] }] }, \
+    Call(0), Const(I32(0)), LocalSet(4), GlobalGet(7), BrIf(2), \
+    LocalGet(3), Call(1), LocalSet(3), \
+    LocalGet(3), BrIf(2)] }, \
+    GlobalGet(7), If { result: Some(I32), then_arm: [LocalGet(4), Const(I32(2)), Num(I32LtU)], else_arm: [\
+    Const(I32(1))] }, \
+    If { result: None, then_arm: [\
+    LocalGet(2), LocalGet(3), CallIndirect(1), Const(I32(1)), LocalSet(4), GlobalGet(7), BrIf(2), LocalSet(2)], \
+    else_arm: [\
+    GlobalGet(7), If { result: None, then_arm: [], else_arm: [\
+    LocalGet(2), Load { op: 40, align: 2, offset: 8 }, LocalSet(3)] }, \
+    Call(0), Const(I32(2)), LocalSet(4), GlobalGet(7), BrIf(2)] }] }, \
+    Br(0)]";
+
+/// So is it where only the call in the first arm is numbered, which isn't noted then.
+const ONE_CALL_LEFT_BY_LABELS: &str = "[\
+    Block { result: None, body: [\
+    GlobalGet(7), If { result: Some(I32), then_arm: [Const(I32(1))], else_arm: [\
+    LocalGet(0), If { result: None, then_arm: [Br(3)], else_arm: [\
+    LocalGet(0), BrTable { labels: [0, 2], last: 3 }] }, \
+    Call(0), \
+    LocalGet(3), Call(1), LocalSet(3), \
+    LocalGet(3), BrIf(2), \
+    Const(I32(1))] }, \
+    If { result: None, then_arm: [\
+    LocalGet(2), LocalGet(3), CallIndirect(1), GlobalGet(7), BrIf(2), LocalSet(2)], else_arm: [\
+    LocalGet(2), Load { op: 40, align: 2, offset: 8 }, LocalSet(3), \
+    Call(0)] }] }, \
+    Br(0)]";
+
+#[test]
+fn runs_leave_by_labels_where_operands_are_no_slots(rt: HostRuntime) -> Result<(), Fail> {
+    let alloc = rt.alloc();
+    let all = guard_slim(alloc, &mut four_calls(alloc)?, &[0, 2, 3], 7, 0, 0)?;
+    assert_eq!(rt;
+        shown(alloc, &all)?.as_str(),
+        FOUR_CALLS_LEFT_BY_LABELS
+    );
+    let one = guard_slim(alloc, &mut four_calls(alloc)?, &[2], 7, 0, 0)?;
+    assert_eq!(rt;
+        shown(alloc, &one)?.as_str(),
+        ONE_CALL_LEFT_BY_LABELS
     );
     Ok(())
 }

@@ -1,9 +1,12 @@
 //! The public calls that no command reaches, or not at this edge, with values from outside: each allocating call with
 //! ample memory, worked numbers and operators, flat and guarded functions, written modules driven as a host does, files and
-//! outputs that fail in the middle.
+//! outputs that fail in the middle, many values in one mailbox, and under every command each call of files, output and devices
+//! failing in turn.
 //! `tests/run` runs it; nothing here is proved.
 #![tactic(auto)]
 
+#[cfg(test)]
+mod asserts;
 #[cfg(test)]
 mod building;
 #[cfg(test)]
@@ -13,6 +16,8 @@ mod driving;
 #[cfg(test)]
 mod dropping;
 #[cfg(test)]
+mod faults;
+#[cfg(test)]
 mod fetching;
 #[cfg(test)]
 mod flattening;
@@ -20,6 +25,8 @@ mod flattening;
 mod guarding;
 #[cfg(test)]
 mod limits;
+#[cfg(test)]
+mod mailing;
 #[cfg(test)]
 mod modules;
 #[cfg(test)]
@@ -33,6 +40,8 @@ mod pausing;
 #[cfg(test)]
 mod pieces;
 #[cfg(test)]
+mod resuming;
+#[cfg(test)]
 mod running;
 #[cfg(test)]
 mod runtime;
@@ -40,6 +49,10 @@ mod runtime;
 mod saving;
 #[cfg(test)]
 mod showing;
+#[cfg(test)]
+mod snapshots;
+#[cfg(test)]
+mod strands;
 #[cfg(test)]
 mod texts;
 #[cfg(test)]

@@ -567,7 +567,7 @@ const COMPARE_64: [(NumOp, u64, u64, u32); 60] = [
 ];
 
 /// An operand and the result.
-const UNARY: [(NumOp, Value, Value); 48] = [
+const UNARY: [(NumOp, Value, Value); 84] = [
     (NumOp::I32Eqz, I32(0x0), I32(1)),
     (NumOp::I32Eqz, I32(0x1), I32(0)),
     (NumOp::I32Eqz, I32(0xFF0000), I32(0)),
@@ -616,6 +616,82 @@ const UNARY: [(NumOp, Value, Value); 48] = [
     (NumOp::I64Popcnt, I64(0x100000000), I64(1)),
     (NumOp::I64Popcnt, I64(0x8000000000000000), I64(1)),
     (NumOp::I64Popcnt, I64(0xFFFFFFFFFFFFFFFF), I64(64)),
+    (NumOp::I32Extend8S, I32(0x7F), I32(0x7F)),
+    (NumOp::I32Extend8S, I32(0x80), I32(0xFFFFFF80)),
+    (NumOp::I32Extend8S, I32(0xFFFFFF7F), I32(0x7F)),
+    (NumOp::I32Extend8S, I32(0x7FFF), I32(0xFFFFFFFF)),
+    (NumOp::I32Extend8S, I32(0x8000), I32(0x0)),
+    (NumOp::I32Extend8S, I32(0x12345680), I32(0xFFFFFF80)),
+    (NumOp::I32Extend8S, I32(0xFFFFFFFF), I32(0xFFFFFFFF)),
+    (NumOp::I32Extend16S, I32(0x7F), I32(0x7F)),
+    (NumOp::I32Extend16S, I32(0x80), I32(0x80)),
+    (NumOp::I32Extend16S, I32(0xFFFFFF7F), I32(0xFFFFFF7F)),
+    (NumOp::I32Extend16S, I32(0x7FFF), I32(0x7FFF)),
+    (NumOp::I32Extend16S, I32(0x8000), I32(0xFFFF8000)),
+    (NumOp::I32Extend16S, I32(0x12345680), I32(0x5680)),
+    (NumOp::I32Extend16S, I32(0xFFFFFFFF), I32(0xFFFFFFFF)),
+    (NumOp::I64Extend8S, I64(0x7F), I64(0x7F)),
+    (NumOp::I64Extend8S, I64(0x80), I64(0xFFFFFFFFFFFFFF80)),
+    (NumOp::I64Extend8S, I64(0xFFFFFFFFFFFFFF7F), I64(0x7F)),
+    (NumOp::I64Extend8S, I64(0x7FFF), I64(0xFFFFFFFFFFFFFFFF)),
+    (NumOp::I64Extend8S, I64(0x8000), I64(0x0)),
+    (
+        NumOp::I64Extend8S,
+        I64(0x123456789ABCDEF),
+        I64(0xFFFFFFFFFFFFFFEF),
+    ),
+    (
+        NumOp::I64Extend8S,
+        I64(0xFFFFFFFFFFFFFFFF),
+        I64(0xFFFFFFFFFFFFFFFF),
+    ),
+    (NumOp::I64Extend16S, I64(0x7F), I64(0x7F)),
+    (NumOp::I64Extend16S, I64(0x80), I64(0x80)),
+    (
+        NumOp::I64Extend16S,
+        I64(0xFFFFFFFFFFFFFF7F),
+        I64(0xFFFFFFFFFFFFFF7F),
+    ),
+    (NumOp::I64Extend16S, I64(0x7FFF), I64(0x7FFF)),
+    (NumOp::I64Extend16S, I64(0x8000), I64(0xFFFFFFFFFFFF8000)),
+    (
+        NumOp::I64Extend16S,
+        I64(0x7FFFFFFF),
+        I64(0xFFFFFFFFFFFFFFFF),
+    ),
+    (
+        NumOp::I64Extend16S,
+        I64(0x123456789ABCDEF),
+        I64(0xFFFFFFFFFFFFCDEF),
+    ),
+    (
+        NumOp::I64Extend16S,
+        I64(0xFFFFFFFFFFFFFFFF),
+        I64(0xFFFFFFFFFFFFFFFF),
+    ),
+    (
+        NumOp::I64Extend32S,
+        I64(0xFFFFFFFFFFFFFF7F),
+        I64(0xFFFFFFFFFFFFFF7F),
+    ),
+    (NumOp::I64Extend32S, I64(0x7FFF), I64(0x7FFF)),
+    (NumOp::I64Extend32S, I64(0x8000), I64(0x8000)),
+    (NumOp::I64Extend32S, I64(0x7FFFFFFF), I64(0x7FFFFFFF)),
+    (
+        NumOp::I64Extend32S,
+        I64(0x80000000),
+        I64(0xFFFFFFFF80000000),
+    ),
+    (
+        NumOp::I64Extend32S,
+        I64(0x123456789ABCDEF),
+        I64(0xFFFFFFFF89ABCDEF),
+    ),
+    (
+        NumOp::I64Extend32S,
+        I64(0xFFFFFFFFFFFFFFFF),
+        I64(0xFFFFFFFFFFFFFFFF),
+    ),
 ];
 
 /// An operand and the result.

@@ -65,6 +65,54 @@ fn writes_past_the_end_change_nothing(rt: HostRuntime) -> Result<(), Fail> {
 }
 
 #[test]
+fn copies_what_stood_there_before(rt: HostRuntime) -> Result<(), Fail> {
+    let mut memory = filled(rt.alloc())?;
+    assert!(rt; memory.copy(65_530, 65_528, 6));
+    assert_eq!(rt; memory.load(65_528, 8), Some(0x5476_98BA_DCFE_DCFE));
+    let mut memory = filled(rt.alloc())?;
+    assert!(rt; memory.copy(65_528, 65_530, 6));
+    assert_eq!(rt; memory.load(65_528, 8), Some(0x1032_1032_5476_98BA));
+    assert!(rt; memory.copy(0, 65_528, 8));
+    assert_eq!(rt; memory.load(0, 8), Some(0x1032_1032_5476_98BA));
+    assert_eq!(rt; memory.load(8, 1), Some(0));
+    assert!(rt; memory.copy(65_528, 65_528, 8));
+    assert_eq!(rt; memory.load(65_528, 8), Some(0x1032_1032_5476_98BA));
+    Ok(())
+}
+
+#[test]
+fn copies_past_the_end_change_nothing(rt: HostRuntime) -> Result<(), Fail> {
+    let mut memory = filled(rt.alloc())?;
+    assert!(rt; !memory.copy(65_529, 65_520, 8));
+    assert!(rt; !memory.copy(65_520, 65_529, 8));
+    assert!(rt; !memory.copy(65_537, 0, 0));
+    assert!(rt; !memory.copy(0, 65_537, 0));
+    assert!(rt; !memory.copy(u64::MAX, 0, 1));
+    assert!(rt; !memory.copy(0, 1, u64::MAX));
+    assert!(rt; memory.copy(65_536, 0, 0));
+    assert!(rt; memory.copy(0, 65_536, 0));
+    assert_eq!(rt; memory.load(0, 8), Some(0));
+    assert_eq!(rt; memory.load(65_528, 8), Some(0x1032_5476_98BA_DCFE));
+    Ok(())
+}
+
+#[test]
+fn fills_up_to_the_end_and_not_past_it(rt: HostRuntime) -> Result<(), Fail> {
+    let mut memory = filled(rt.alloc())?;
+    assert!(rt; !memory.fill(65_533, 7, 4));
+    assert!(rt; !memory.fill(65_537, 7, 0));
+    assert!(rt; !memory.fill(u64::MAX, 7, 1));
+    assert!(rt; !memory.fill(1, 7, u64::MAX));
+    assert!(rt; memory.fill(65_536, 7, 0));
+    assert_eq!(rt; memory.load(65_528, 8), Some(0x1032_5476_98BA_DCFE));
+    assert!(rt; memory.fill(65_530, 0xAB, 3));
+    assert_eq!(rt; memory.load(65_528, 8), Some(0x1032_54AB_ABAB_DCFE));
+    assert!(rt; memory.fill(0, 0xFF, 65_536));
+    assert_eq!(rt; memory.load(65_528, 8), Some(u64::MAX));
+    Ok(())
+}
+
+#[test]
 fn grows_up_to_the_declared_maximum(rt: HostRuntime) -> Result<(), Fail> {
     let mut memory = Pages::new(rt.alloc(), 1, Some(3))?;
     memory.store(65_535, 1, 7);

@@ -67,6 +67,7 @@ fn functions_that_call_a_listed_import_may_pause(rt: HostRuntime) -> Result<(), 
             choice,
             ignore_indirect: false,
             policy: Policy::All,
+            asserts: false,
         };
         let listed = listed_imports(alloc, &module, &settings)?;
         assert_eq!(rt; listed.as_slice(), imports.as_slice());

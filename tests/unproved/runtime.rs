@@ -2,7 +2,7 @@
 
 use crate::modules::{EACH_SECTION, module};
 use crate::showing::shown;
-use asyncify_runtime::{ReservedAt, RuntimeFault, add_runtime, reserved};
+use local_spill::{ReservedAt, RuntimeFault, add_runtime, reserved};
 use std::alloc::{AllocError, Global};
 use std::test::Fail;
 use wa_types::{Export, Module, Name, Space};

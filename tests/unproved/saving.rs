@@ -34,6 +34,7 @@ fn kept(alloc: Global, bytes: &[u8], policy: Policy) -> Result<String, Fail> {
         choice: Choice::Every,
         ignore_indirect: false,
         policy,
+        asserts: false,
     };
     let written = asyncify_module(alloc, &original, &settings)?;
     let mut text = String::new(alloc);

@@ -1,7 +1,7 @@
 //! Modules, instructions and flat functions as texts, in the form of a derived `Debug`: tests alone print these types, so
 //! none is derived for them.
 
-use flow_rewrite::GuardedFunc;
+use slim_rewrite::GuardedFunc;
 use std::alloc::{AllocError, Global};
 use std::fmt::Write;
 use wa_model::{FlatFunc, Operand, Stmt};
@@ -78,6 +78,8 @@ fn show_leaf(out: &mut String, leaf: &Instr) -> Result<(), AllocError> {
         Instr::Return => out.push_str("Return"),
         Instr::MemorySize => out.push_str("MemorySize"),
         Instr::MemoryGrow => out.push_str("MemoryGrow"),
+        Instr::MemoryCopy => out.push_str("MemoryCopy"),
+        Instr::MemoryFill => out.push_str("MemoryFill"),
         Instr::Const(value) => write!(out, "Const({value:?})"),
         Instr::Num(op) => write!(out, "Num({})", name_of(*op)),
         Instr::Br(label) => write!(out, "Br({label})"),
@@ -124,7 +126,12 @@ pub fn name_of(op: NumOp) -> &'static str {
         0x67..=0x8A => ARITHMETIC[code - 0x67],
         0xA7 => "I32WrapI64",
         0xAC => "I64ExtendI32S",
-        _ => "I64ExtendI32U",
+        0xAD => "I64ExtendI32U",
+        0xC0 => "I32Extend8S",
+        0xC1 => "I32Extend16S",
+        0xC2 => "I64Extend8S",
+        0xC3 => "I64Extend16S",
+        _ => "I64Extend32S",
     }
 }
 

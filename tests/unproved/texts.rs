@@ -1,7 +1,10 @@
-//! The texts of faults.
+//! The texts of faults, and the lines of strands.
 
-use asyncify_runtime::RuntimeFault;
+use local_spill::RuntimeFault;
+use std::alloc::{AllocError, Global};
 use std::test::Fail;
+use transcript::{Names, StrandLineParts, strand_line};
+use wa_model::{End, Event, Line};
 use wa_types::LimitKind;
 use wasm_encode::EncodeFault;
 use wasm_reader::ReadFault;
@@ -46,5 +49,28 @@ fn faults_of_modules_have_texts(rt: HostRuntime) -> Result<(), Fail> {
         texts.as_str(),
         "out of memory, invalid rule 16, the module has 67108865 bytes, out of memory"
     );
+    Ok(())
+}
+
+// The line of a strand's end; the first strand's has the program's number alone.
+fn end_line(alloc: Global, strand: u32) -> Result<Vec<u8>, AllocError> {
+    let names = Names {
+        imports: Vec::new(alloc),
+        entries: Vec::new(alloc),
+        len: 64,
+    };
+    let line = Line {
+        tick: 5,
+        program: 3,
+        event: Event::Ended(End::Done),
+    };
+    strand_line(alloc, &StrandLineParts { line, strand }, &names)
+}
+
+#[test]
+fn strands_are_printed_behind_a_dot(rt: HostRuntime) -> Result<(), Fail> {
+    let alloc = rt.alloc();
+    assert_eq!(rt; end_line(alloc, 0)?.as_slice(), "5 3 end done\n".as_bytes());
+    assert_eq!(rt; end_line(alloc, 12)?.as_slice(), "5 3.12 end done\n".as_bytes());
     Ok(())
 }

@@ -3,8 +3,7 @@
 use crate::showing::shown;
 use std::alloc::{AllocError, Global};
 use std::test::Fail;
-use wa_types::{Instr, Value};
-use wasm_tree::{count, depth, prune};
+use wa_types::{Instr, Value, count, depth, prune};
 
 /// An `if` of two arms, with code behind what control never goes past in each and behind it.
 fn with_dead_code(alloc: Global) -> Result<Vec<Instr>, AllocError> {

@@ -1,11 +1,11 @@
 //! Files and output, in memory and real.
 
-use memory_vaults::{MemSink, MemVault, NamedFile, SureSink, SureVault};
+use memory_vaults::{MemSink, MemVault, NamedFile, SureDisk, SureOut, SureSink, SureVault};
 use std::alloc::{AllocError, Global};
 use std::fmt::Display;
 use std::test::Fail;
 use std::{env, fs, io, process};
-use system_vaults::{FileVault, OutSink};
+use system_vaults::{Disk, FileVault, Out, OutSink, SystemDisk};
 use vault_port::*;
 use wa_types::Name;
 
@@ -105,6 +105,99 @@ fn a_file_is_written_and_read_back(rt: HostRuntime) -> Result<(), Fail> {
             Err(SaveFault::Write)
         )
     );
+    Ok(())
+}
+
+/// A disk in memory of whose pieces at most so many bytes are taken.
+#[derive(Drop)]
+struct Short(SureDisk, usize);
+
+impl Disk for Short {
+    ghost use Rattle.std.specs.Prelude.{None};
+
+    ghost files = { λ _. None };
+
+    ghost read_faults = { λ _. 0 };
+
+    ghost write_faults = { λ _. 0 };
+
+    fn read(&mut self, name: &str, from: u64, buf: &mut [u8]) -> io::Result<usize> {
+        self.0.read(name, from, buf)
+    }
+
+    fn cut(&mut self, name: &str, at: u64) -> io::Result<()> {
+        self.0.cut(name, at)
+    }
+
+    fn write(&mut self, name: &str, from: u64, piece: &[u8]) -> io::Result<usize> {
+        self.0.write(name, from, &piece[..piece.len().min(self.1)])
+    }
+}
+
+#[test]
+fn a_vault_over_a_disk_has_its_files(rt: HostRuntime) -> Result<(), Fail> {
+    let alloc = rt.alloc();
+    let files = vec![in alloc;
+        named(alloc, "out", b"longer than in")?,
+        named(alloc, "in", b"seven b")?,
+    ]?;
+    let mut vault = FileVault::over(SureDisk::new(SureVault::new(alloc, files)));
+    let mut out = OutSink::over(SureOut::new(SureSink::new(alloc)));
+    assert_eq!(rt; copy_and_print(alloc, &mut vault, &mut out)?, 7);
+    assert_eq!(rt; vault.save("out", 5, b"!")?, 1);
+    let mut buf = [b'.'; 4];
+    assert_eq!(rt; vault.fetch("out", 4, &mut buf)?, 2);
+    assert_eq!(rt; buf, [b'n', b'!', b'.', b'.']);
+    assert_eq!(rt; vault.fetch("out", 6, &mut buf)?, 0);
+    assert!(rt; vault.cause().is_none());
+    assert!(rt; matches!(vault.fetch("no", 0, &mut buf), Err(VaultFail::Absent)));
+    assert!(rt; vault.cause().map(|cause| cause.kind()) == Some(io::ErrorKind::NotFound));
+    let mut printed = SureOut::new(SureSink::new(alloc));
+    assert_eq!(rt; printed.write(b"ab")?, 2);
+    assert_eq!(rt; printed.write(b"c")?, 1);
+    assert!(rt; printed.bytes() == b"abc".as_slice());
+    Ok(())
+}
+
+#[test]
+fn a_save_tells_what_was_taken(rt: HostRuntime) -> Result<(), Fail> {
+    let alloc = rt.alloc();
+    let mut vault = FileVault::over(Short(SureDisk::new(SureVault::new(alloc, Vec::new(alloc))), 3));
+    assert_eq!(rt; vault.save("out", 0, b"seven b")?, 3);
+    assert_eq!(rt; vault.save("out", 2, b"ts")?, 2);
+    let bytes = fetch_whole(alloc, &mut vault, "out", 9)?;
+    assert!(rt; bytes.as_slice() == b"sets".as_slice());
+    save_whole(&mut vault, "out", b"seven bytes")?;
+    let bytes = fetch_whole(alloc, &mut vault, "out", 99)?;
+    assert!(rt; bytes.as_slice() == b"seven bytes".as_slice());
+    let mut stuck = FileVault::over(Short(SureDisk::new(SureVault::new(alloc, Vec::new(alloc))), 0));
+    assert!(rt; matches!(stuck.save("out", 0, b"x"), Err(VaultFail::Failed)));
+    assert!(rt; stuck.cause().map(|cause| cause.kind()) == Some(io::ErrorKind::WriteZero));
+    assert_eq!(rt; stuck.save("out", 0, b"")?, 0);
+    Ok(())
+}
+
+#[test]
+fn the_system_writes_only_what_was_cut(rt: HostRuntime) -> Result<(), Fail> {
+    let alloc = rt.alloc();
+    let folder = env::temp_dir(&rt)?;
+    let id = process::id(rt.process());
+    let path = format!(in alloc; "{}/system_disk_{id}", folder.display())?;
+    let other = format!(in alloc; "{path}_other")?;
+    let mut disk = SystemDisk::new(&rt);
+    assert!(rt; disk.write(path.as_str(), 0, b"x").is_err());
+    disk.cut(path.as_str(), 0)?;
+    assert_eq!(rt; disk.write(path.as_str(), 0, b"abc")?, 3);
+    assert!(rt; disk.write(path.as_str(), 3, b"x").is_err());
+    disk.cut(other.as_str(), 0)?;
+    assert!(rt; disk.write(path.as_str(), 0, b"x").is_err());
+    disk.cut(path.as_str(), 2)?;
+    assert!(rt; disk.write(path.as_str(), 3, b"x").is_err());
+    let mut buf = [b'.'; 3];
+    assert_eq!(rt; disk.read(path.as_str(), 1, &mut buf)?, 1);
+    assert_eq!(rt; buf, [b'b', b'.', b'.']);
+    fs::remove_file(&rt, path.as_str())?;
+    fs::remove_file(&rt, other.as_str())?;
     Ok(())
 }
 

@@ -1,9 +1,9 @@
 -- Boxed devices that are lent.
 use Rattle.std.proofs.Common.{◌≡◌, ℕ, List, [], ◌∷◌, map, Option, refl, sym, ap, ◌∙◌, subst}
 use Rattle.vault_port.specs.Files.{Files}
-use Rattle.wa_model.specs.World.{Device}
+use Rattle.world_model.specs.World.{Device}
 use Rattle.event_order.specs.Left.{Counted}
-use Rattle.script_command.specs.Way.{Way}
+use Rattle.script_command.specs.declared.way.Way.{Way}
 use Rattle.script_command.specs.Answers.{HasOneEnd}
 use Rattle.script_command.specs.Ends.{call}
 use Rattle.script_command.proofs.Answering.{kept_devices}

@@ -1,3 +1,14 @@
+pub mod AbsentFiles
 pub mod Boxes
+pub mod GeneratedLocals
+pub mod GeneratedSetUp
+pub mod GeneratedSizes
 pub mod OneEnd
+pub mod OneStory
+pub mod Rewriting
+pub mod Rewritten
+pub mod Runs
+pub mod SmallStatuses
+pub mod SnapshotEnds
 pub mod Statuses
+pub mod Telling

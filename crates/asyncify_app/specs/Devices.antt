@@ -1,6 +1,6 @@
 -- Boxed devices of a list.
 use Rattle.std.specs.Prelude.{ℕ, List, map}
-use Rattle.wa_model.specs.World.{Device}
+use Rattle.world_model.specs.World.{Device}
 use Rattle.event_order.specs.Left.{Counted}
 
 -- each as a world sees it, with its count of faults

@@ -1,7 +1,8 @@
 //! A script, played with a list of boxed devices.
 
 ghost use Rattle.std.specs.Prelude.{◌≡◌, ◌≢◌, ◌≤◌};
-ghost use Rattle.host_turns.specs.Supplies.{IsLent};
+ghost use Rattle.host_laws.specs.Supplies.{IsLent};
+ghost use Rattle.transcript.specs.Refused.{CountsBy};
 ghost use Rattle.asyncify_app.specs.Devices.{counted_boxes};
 ghost use Rattle.script_command.specs.Answers.{HasOneEnd};
 ghost use Rattle.script_command.specs.Ends.{IsStatus, call};
@@ -30,6 +31,8 @@ pub(crate) fn play_with<V: Vault, S: Sink>(
         → counted_boxes seen (λ b. (⟦<dyn Device as Device>⟧ b.vtable).faults b.value) devices.new.items
         ≡ counted_boxes seen (λ b. (⟦<dyn Device as Device>⟧ b.vtable).faults b.value) devices.old.items }
     ensures kept { V.files vault.new ≡ V.files vault.old }
+    ensures counts { CountsBy result (V.fetch_faults vault.old) (V.fetch_faults vault.new) (V.save_faults vault.old) (V.save_faults vault.new)
+        (S.faults out.old) (S.faults out.new) }
     ensures fetch_faults { V.fetch_faults vault.old ≤ V.fetch_faults vault.new }
     ensures save_faults { V.save_faults vault.new ≡ V.save_faults vault.old }
     ensures sink_faults { S.faults out.old ≤ S.faults out.new }

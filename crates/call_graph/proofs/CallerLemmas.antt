@@ -15,7 +15,7 @@ use Rattle.call_graph.specs.declared.calls.Callee.{Callee}
 use Rattle.call_graph.specs.Calls.{callee_of, IsThere, pauses, pauses_alone}
 use Rattle.call_graph.specs.Callers.{Puts, GatheredBelow}
 use Rattle.call_graph.proofs.GraphLemmas.{calls_there, has, gather_more}
-use Rattle.import_lists.proofs.ListLemmas.{any_of_map}
+use Rattle.call_graph.proofs.ListLemmas.{any_of_map}
 
 -- the calls of a function are there
 pub all_there : (m : Module) (i n : ℕ) (f : Func) (callers : List (Vec ℕ Global)) (calls : List Callee) → Valid m → slice_get m.funcs i ≡ Some f → GatheredBelow m n callers

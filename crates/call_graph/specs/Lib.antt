@@ -1,4 +1,7 @@
 pub mod Callers
 pub mod Calls
+pub mod Entries
 pub mod Graph
-pub use Rattle.import_lists.specs.Settings
+pub mod Index
+pub mod Lists
+pub mod Settings

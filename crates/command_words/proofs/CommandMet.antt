@@ -8,9 +8,9 @@ use Rattle.clap.specs.Matches.{subcommand_name_of}
 use Rattle.clap.specs.declared.parser.matches.ArgMatches.{ArgMatches}
 use Rattle.clap.specs.declared.parser.matches.SubCommand.{SubCommand}
 use Rattle.clap.specs.declared.parser.matches.ArgMatches.TheViews.{out-ArgMatches, out-SubCommand}
-use Rattle.wa_model.specs.Spelled.{Spelled}
-use Rattle.word_grammar.specs.Grammar.{Kind, MatchesSpell, name_of, read_of}
-use Rattle.word_grammar.proofs.Meanings.{command_read, name_in, rows_in}
+use Rattle.script_model.specs.Spelled.{Spelled}
+use Rattle.command_words.specs.Grammar.{Kind, MatchesSpell, name_of, read_of}
+use Rattle.command_words.proofs.Meanings.{command_read, name_in, rows_in}
 
 module _ {Z : Type 0} where
   same_name : (sub : Option (Box SubCommand Z)) → name_in (subcommand_rows sub) ≡ option_map (λ b. (out-SubCommand (box_value b)).name.now) sub

@@ -1,12 +1,12 @@
 -- Words of small commands that the definitions compute, wrong readings beside right ones.
-use Rattle.std.proofs.Common.{◌≡◌, [], ◌∷◌, Some, None, false, refl}
+use Rattle.std.proofs.Common.{◌≡◌, [], ◌∷◌, Some, None, Bool, false, true, refl}
 use Rattle.std.specs.Prelude.{codes}
 use Rattle.std.specs.Str.{is_utf8, chars}
 use Rattle.std.proofs.Math.Utf8.{encode}
 use Rattle.std.specs.Fmt.{digits}
 use Rattle.wa_types.specs.Pausing.{Policy, every, save_all, save_live}
-use Rattle.wa_model.specs.Command.{transform}
-use Rattle.wa_model.specs.Spelled.{Spelled, spelled, rewrites, hosts, runs, generates}
+use Rattle.script_model.specs.Command.{transform}
+use Rattle.script_model.specs.Spelled.{Spelled, spelled, rewrites, hosts, runs, generates, saves, continues}
 
 -- ---- a script alone
 
@@ -58,6 +58,44 @@ no_output : spelled (codes "gen" ∷ codes "4" ∷ []) ≡ None
 unfolding is_utf8 chars encode digits
 no_output = refl
 
+-- ---- snapshots
+
+saves_script : (spelled (codes "save" ∷ codes "s" ∷ codes "1" ∷ codes "snap" ∷ []) ≡ Some (saves (codes "s") 1 (codes "snap")))
+    × (spelled (codes "save" ∷ codes "s" ∷ codes "1000000000" ∷ codes "snap" ∷ []) ≡ Some (saves (codes "s") 1000000000 (codes "snap")))
+unfolding is_utf8 chars encode digits
+saves_script = (refl, refl)
+
+-- from 1 to 1,000,000,000, without a leading zero
+no_events :
+    (spelled (codes "save" ∷ codes "s" ∷ codes "0" ∷ codes "snap" ∷ []) ≡ None) × (spelled (codes "save" ∷ codes "s" ∷ codes "1000000001" ∷ codes "snap" ∷ []) ≡ None)
+    × (spelled (codes "save" ∷ codes "s" ∷ codes "01" ∷ codes "snap" ∷ []) ≡ None)
+unfolding is_utf8 chars encode digits
+no_events = (refl, refl, refl)
+
+continues_script : spelled (codes "continue" ∷ codes "s" ∷ codes "snap" ∷ []) ≡ Some (continues (codes "s") (codes "snap"))
+unfolding is_utf8 chars encode digits
+continues_script = refl
+
+-- the files are three and two
+no_snap :
+    (spelled (codes "save" ∷ codes "s" ∷ codes "1" ∷ []) ≡ None) × (spelled (codes "save" ∷ codes "s" ∷ codes "1" ∷ codes "snap" ∷ codes "more" ∷ []) ≡ None)
+    × (spelled (codes "continue" ∷ codes "s" ∷ []) ≡ None) × (spelled (codes "continue" ∷ codes "s" ∷ codes "snap" ∷ codes "more" ∷ []) ≡ None)
+unfolding is_utf8 chars encode digits
+no_snap = (refl, refl, refl, refl)
+
+-- they have no option, and `--` ends the options
+no_snap_options :
+    (spelled (codes "save" ∷ codes "--save=live" ∷ codes "s" ∷ codes "1" ∷ codes "snap" ∷ []) ≡ None) × (spelled (codes "continue" ∷ codes "s" ∷ codes "-t" ∷ []) ≡ None)
+    × (spelled (codes "continue" ∷ codes "s" ∷ codes "--" ∷ codes "-t" ∷ []) ≡ Some (continues (codes "s") (codes "-t")))
+unfolding is_utf8 chars encode digits
+no_snap_options = (refl, refl, refl)
+
+-- no other command has a third file
+no_third : (spelled (codes "transform" ∷ codes "a" ∷ codes "b" ∷ codes "c" ∷ []) ≡ None) × (spelled (codes "gen" ∷ codes "4" ∷ codes "a" ∷ codes "b" ∷ []) ≡ None)
+    × (spelled (codes "run" ∷ codes "a" ∷ codes "b" ∷ codes "c" ∷ []) ≡ None)
+unfolding is_utf8 chars encode digits
+no_third = (refl, refl, refl)
+
 -- the first word is a command's name
 no_command : (spelled [] ≡ None) × (spelled (codes "hosts" ∷ codes "s" ∷ []) ≡ None) × (spelled (codes "--" ∷ codes "host" ∷ codes "s" ∷ []) ≡ None)
 unfolding is_utf8 chars encode digits
@@ -66,7 +104,7 @@ no_command = (refl, refl, refl)
 -- ---- what frames save
 
 abbrev a_to_b : Policy → Spelled
-a_to_b policy = rewrites (transform (record { choice = every; ignore_indirect = false; policy = policy }) (codes "a") (codes "b"))
+a_to_b policy = rewrites (transform (record { settings = record { choice = every; ignore_indirect = false; policy = policy }; asserts = false }) (codes "a") (codes "b"))
 
 saves_live :
     (spelled (codes "transform" ∷ codes "--save" ∷ codes "live" ∷ codes "a" ∷ codes "b" ∷ []) ≡ Some (a_to_b save_live))
@@ -90,3 +128,24 @@ no_policy :
     × (spelled (codes "run" ∷ codes "--save=live" ∷ codes "s" ∷ []) ≡ None)
 unfolding is_utf8 chars encode digits
 no_policy = (refl, refl, refl, refl, refl, refl)
+
+-- ---- asserts
+
+abbrev with_asserts : (ignore : Bool) → Spelled
+with_asserts ignore = rewrites (transform (record { settings = record { choice = every; ignore_indirect = ignore; policy = save_all }; asserts = true }) (codes "a") (codes "b"))
+
+wants_asserts :
+    (spelled (codes "transform" ∷ codes "--asserts" ∷ codes "a" ∷ codes "b" ∷ []) ≡ Some (with_asserts false))
+    × (spelled (codes "transform" ∷ codes "a" ∷ codes "--ignore-indirect" ∷ codes "b" ∷ codes "--asserts" ∷ []) ≡ Some (with_asserts true))
+unfolding is_utf8 chars encode digits
+wants_asserts = (refl, refl)
+
+-- the flag stands once, takes no value, and is one of `transform` alone
+no_asserts :
+    (spelled (codes "transform" ∷ codes "--asserts" ∷ codes "--asserts" ∷ codes "a" ∷ codes "b" ∷ []) ≡ None)
+    × (spelled (codes "transform" ∷ codes "--asserts=true" ∷ codes "a" ∷ codes "b" ∷ []) ≡ None)
+    × (spelled (codes "transform" ∷ codes "--assert" ∷ codes "a" ∷ codes "b" ∷ []) ≡ None)
+    × (spelled (codes "host" ∷ codes "--asserts" ∷ codes "s" ∷ []) ≡ None) × (spelled (codes "run" ∷ codes "s" ∷ codes "--asserts" ∷ []) ≡ None)
+    × (spelled (codes "gen" ∷ codes "--asserts" ∷ codes "4" ∷ codes "out" ∷ []) ≡ None)
+unfolding is_utf8 chars encode digits
+no_asserts = (refl, refl, refl, refl, refl, refl)

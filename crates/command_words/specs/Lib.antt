@@ -1,1 +1,4 @@
+pub mod Grammar
+pub mod Line
+pub mod Scripts
 pub mod Words

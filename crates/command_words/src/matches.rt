@@ -3,7 +3,7 @@
 ghost use Rattle.std.specs.Prelude.{◌≡◌};
 ghost use Rattle.clap.specs.Words.{first_of, found_of, kind_of, rows_of};
 ghost use Rattle.clap.specs.declared.error.kind.ErrorKind.TheVariants.{OutOfMemory};
-ghost use Rattle.word_grammar.specs.Grammar.{TellsFlag, flag_of};
+ghost use Rattle.command_words.specs.Grammar.{TellsFlag, flag_of};
 ghost use Rattle.command_words.specs.Words.{text_of};
 ghost use Rattle.command_words.specs.declared.words.WordsFault.TheVariants.{Usage};
 

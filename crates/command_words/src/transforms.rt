@@ -4,10 +4,10 @@ ghost use Rattle.std.specs.Prelude.{◌≡◌, None, Some, false, IfOk};
 ghost use Rattle.std.specs.Option.{option_map};
 ghost use Rattle.clap.specs.Words.{found_of, rows_of};
 ghost use Rattle.call_graph.specs.Settings.{choice_of, policy_of};
-ghost use Rattle.wa_model.specs.Command.{choice_said, policy_said, with_files};
-ghost use Rattle.wa_model.specs.Spelled.{rewrites};
-ghost use Rattle.word_grammar.specs.Grammar.{TellsFlags, read_of, transform_words};
-ghost use Rattle.command_words.specs.Words.{HasFewFunctions, Reads, spelled_of, text_of};
+ghost use Rattle.script_model.specs.Command.{choice_said, policy_said, with_files};
+ghost use Rattle.script_model.specs.Spelled.{rewrites};
+ghost use Rattle.command_words.specs.Grammar.{TellsFlags, read_of, transform_words};
+ghost use Rattle.command_words.specs.Words.{HasItsNumber, Reads, spelled_of, text_of};
 
 use crate::matches::{flag_at, text_at};
 use crate::words::{Command, WordsFault};
@@ -21,16 +21,17 @@ pub(crate) fn transform_from<'w>(
     matches: &ArgMatches<'w>,
 ) -> Result<Command<'w>, WordsFault>
     ensures command { TellsFlags transform_words (rows_of (found_of matches.now)) → Reads spelled_of result (read_of transform_words (rows_of (found_of matches.now))) }
-    ensures number { IfOk result HasFewFunctions }
+    ensures number { IfOk result HasItsNumber }
 {
     let imports = text_at(matches, "imports");
     let ignore_imports = flag_at(matches, "ignore-imports");
     let ignore_indirect = flag_at(matches, "ignore-indirect");
+    let asserts = flag_at(matches, "asserts");
     let save = text_at(matches, "save");
     let input = text_at(matches, "input");
     let output = text_at(matches, "output");
     match choice_said(alloc, imports, ignore_imports) {
-        Ok(choice) => with_policy(choice, ignore_indirect, save, input, output),
+        Ok(choice) => with_policy(choice, ignore_indirect, asserts, save, input, output),
         Err(fault) => Err(fault),
     }
 }
@@ -101,40 +102,43 @@ fn named_policy(name: &str) -> Result<Policy, WordsFault>
 fn with_policy<'w>(
     choice: Choice,
     ignore_indirect: bool,
+    asserts: bool,
     save: Option<&'w str>,
     input: Option<&'w str>,
     output: Option<&'w str>,
 ) -> Result<Command<'w>, WordsFault>
-    ensures command { Reads spelled_of result (option_map rewrites (with_files (Some (choice_of choice)) ignore_indirect (policy_said (text_of save.entry)) (text_of input.entry)
+    ensures command { Reads spelled_of result (option_map rewrites (with_files (Some (choice_of choice)) ignore_indirect asserts (policy_said (text_of save.entry)) (text_of input.entry)
         (text_of output.entry))) }
-    ensures number { IfOk result HasFewFunctions }
+    ensures number { IfOk result HasItsNumber }
 {
     match policy_said(save) {
-        Ok(policy) => with_files(choice, ignore_indirect, policy, input, output),
+        Ok(policy) => {
+            let settings = Settings {
+                choice,
+                ignore_indirect,
+                policy,
+                asserts,
+            };
+            with_files(settings, input, output)
+        }
         Err(fault) => Err(fault),
     }
 }
 
 fn with_files<'w>(
-    choice: Choice,
-    ignore_indirect: bool,
-    policy: Policy,
+    settings: Settings,
     input: Option<&'w str>,
     output: Option<&'w str>,
 ) -> Result<Command<'w>, WordsFault>
-    ensures command { Reads spelled_of result (option_map rewrites (with_files (Some (choice_of choice)) ignore_indirect (Some (policy_of policy)) (text_of input.entry) (text_of output.entry))) }
-    ensures number { IfOk result HasFewFunctions }
+    ensures command { Reads spelled_of result (option_map rewrites (with_files (Some (choice_of settings.choice)) settings.ignore_indirect settings.asserts (Some (policy_of settings.policy))
+        (text_of input.entry) (text_of output.entry))) }
+    ensures number { IfOk result HasItsNumber }
 {
     let Some(input) = input else {
         return Err(WordsFault::Usage);
     };
     let Some(output) = output else {
         return Err(WordsFault::Usage);
-    };
-    let settings = Settings {
-        choice,
-        ignore_indirect,
-        policy,
     };
     Ok(Command::Transform {
         settings,

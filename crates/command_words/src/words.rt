@@ -3,16 +3,16 @@
 ghost use Rattle.std.specs.Prelude.{◌≡◌, Option, map, IfOk};
 ghost use Rattle.std.specs.String.{string_bytes};
 ghost use Rattle.clap.specs.Words.{subcommand_rows_of};
-ghost use Rattle.wa_model.specs.Spelled.{Spelled, spelled};
-ghost use Rattle.word_grammar.specs.Grammar.{MatchesSpell};
-ghost use Rattle.command_words.specs.Words.{HasFewFunctions, Reads, spelled_of};
+ghost use Rattle.script_model.specs.Spelled.{Spelled, spelled};
+ghost use Rattle.command_words.specs.Grammar.{MatchesSpell};
+ghost use Rattle.command_words.specs.Words.{HasItsNumber, Reads, spelled_of};
 
-use crate::files::{generate_from, script_from};
+use crate::files::{continue_from, generate_from, save_from, script_from};
+use crate::line::parse_line;
 use crate::matches::parse_fault;
 use crate::transforms::transform_from;
 use call_graph::Settings;
 use clap::ArgMatches;
-use command_line::parse_line;
 use std::alloc::Global;
 use thiserror::Error;
 
@@ -38,6 +38,17 @@ pub enum Command<'w> {
         number: u32,
         output: &'w str,
     },
+    /// Run the original modules of a script, rewritten, for this many events at most, 1 to 1,000,000,000, and write a snapshot.
+    Save {
+        script: &'w str,
+        events: u64,
+        snap: &'w str,
+    },
+    /// Run the original modules of a script, rewritten, on from a snapshot.
+    Continue {
+        script: &'w str,
+        snap: &'w str,
+    },
 }
 
 /// Why no command was read.
@@ -52,7 +63,7 @@ pub enum WordsFault {
 /// The command that the words spell, if they spell one.
 pub fn read_words<'w>(alloc: Global, words: &'w [String]) -> Result<Command<'w>, WordsFault>
     ensures command { Reads spelled_of result (spelled (map string_bytes words.now)) }
-    ensures number { IfOk result HasFewFunctions }
+    ensures number { IfOk result HasItsNumber }
 {
     match parse_line(alloc, words) {
         Ok(matches) => command_from(alloc, &matches),
@@ -63,7 +74,7 @@ pub fn read_words<'w>(alloc: Global, words: &'w [String]) -> Result<Command<'w>,
 /// The command that was met, with what the words say of it.
 fn command_from<'w>(alloc: Global, matches: &ArgMatches<'w>) -> Result<Command<'w>, WordsFault>
     ensures command { (spelling : Option Spelled) → MatchesSpell (subcommand_rows_of matches.now) spelling → Reads spelled_of result spelling }
-    ensures number { IfOk result HasFewFunctions }
+    ensures number { IfOk result HasItsNumber }
 {
     if let Some(matches) = matches.subcommand_matches("transform") {
         return transform_from(alloc, matches);
@@ -76,8 +87,14 @@ fn command_from<'w>(alloc: Global, matches: &ArgMatches<'w>) -> Result<Command<'
         let script = script_from(matches)?;
         return Ok(Command::Run { script });
     }
-    match matches.subcommand_matches("gen") {
-        Some(matches) => generate_from(matches),
+    if let Some(matches) = matches.subcommand_matches("gen") {
+        return generate_from(matches);
+    }
+    if let Some(matches) = matches.subcommand_matches("save") {
+        return save_from(matches);
+    }
+    match matches.subcommand_matches("continue") {
+        Some(matches) => continue_from(matches),
         None => Err(WordsFault::Usage),
     }
 }

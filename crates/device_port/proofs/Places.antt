@@ -11,7 +11,7 @@ use Rattle.wa_types.specs.Validity.{same_name}
 use Rattle.wa_types.specs.declared.values.Value.{Value}
 use Rattle.wa_model.specs.declared.events.End.TheVariants.{DeviceFault, NoDevice}
 use Rattle.wa_model.specs.Plan.{ValueFits, refused}
-use Rattle.wa_model.specs.World.{Device, Asked, is_named, journaled, taken_out, MeetsDevice}
+use Rattle.world_model.specs.World.{Device, Asked, is_named, journaled, taken_out, MeetsDevice}
 use Rattle.std.proofs.lemmas.Map.Keys.{any_passes_from_place}
 use Rattle.device_port.specs.declared.device.Reply.{Reply}
 use Rattle.device_port.specs.Journals.{entry, with_entry, replied}

@@ -1,3 +1,5 @@
-pub use Rattle.vault_port.specs.Counts
+pub mod Answers
+pub mod InMemory
 pub mod Journals
+pub mod Kept
 pub mod Listed

@@ -3,7 +3,7 @@ use Rattle.std.specs.Prelude.{◌≡◌, ℕ, List, take, map, slice_get, slice_
 use Rattle.std.specs.List.{list_any}
 use Rattle.std.specs.declared.dyn_box.DynBox.{DynBox}
 use Rattle.std.specs.Global.{Global}
-use Rattle.wa_model.specs.World.{Device, is_named}
+use Rattle.world_model.specs.World.{Device, is_named}
 use Rattle.device_port.specs.declared.devices.Devices.{Devices}
 
 -- a meaning of each device, in order

@@ -54,5 +54,6 @@ pub trait Device: Drop {
 
         ensures fault { IsErrOf result DeviceFail.Fault
             → HasRisen (faults self.old) (faults self.new) }
+        ensures steady { IfOk result (λ reply. faults self.new ≡ faults self.old) }
         ensures rising { faults self.old ≤ faults self.new };
 }

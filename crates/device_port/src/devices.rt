@@ -4,12 +4,12 @@ ghost use Rattle.std.specs.Prelude.{◌≡◌, ◌≤◌, ◌<◌, ◌^◌, ℕ,
 ghost use Rattle.std.specs.List.{list_any, remove};
 ghost use Rattle.wa_model.specs.declared.events.End.TheVariants.{DeviceFault};
 ghost use Rattle.wa_model.specs.Plan.{refused, ValueFits};
-ghost use Rattle.wa_model.specs.World.{is_named, journaled, taken_out, MeetsDevice};
+ghost use Rattle.world_model.specs.World.{is_named, journaled, taken_out, MeetsDevice};
 ghost use Rattle.vault_port.specs.Counts.{HasRisen};
 ghost use Rattle.device_port.specs.Journals.{entry, with_entry, replied};
 ghost use Rattle.device_port.specs.Listed.{of_each, IsFirstOf, ChangesAt};
 
-use crate::{Device, DeviceFail, Reply};
+use crate::device::{Device, DeviceFail, Reply};
 use wa_types::Value;
 
 /// A caller's list of boxed devices, lent.
@@ -60,6 +60,7 @@ impl<'d> Devices<'d> {
             → (import : ℕ) (name : List ℕ) → IsFirstOf (of_each seen self.old) name place
             → MeetsDevice import base.now name args.now
             (of_each seen self.old) (refused (DeviceFault import)) (of_each seen self.new) }
+        ensures steady { IfOk result (λ reply. of_each faults self.new ≡ of_each faults self.old) }
         ensures rising { ChangesAt (λ old new. old ≤ new)
             place (of_each faults self.old) (of_each faults self.new) }
     {
@@ -116,6 +117,7 @@ fn ask_box(device: &mut Box<dyn Device>, base: &str, args: &[Value]) -> Result<R
     ensures kept { OnErr result (seen device.new ≡ seen device.old) }
     ensures fault { IsErrOf result DeviceFail.Fault
         → HasRisen (faults device.old) (faults device.new) }
+    ensures steady { IfOk result (λ reply. faults device.new ≡ faults device.old) }
     ensures rising { faults device.old ≤ faults device.new }
 {
     match device.call(base, args) {

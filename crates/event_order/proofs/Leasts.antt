@@ -4,7 +4,7 @@ use Rattle.std.specs.Option.{option_map}
 use Rattle.std.proofs.lemmas.Bool.{cases_lt}
 use Rattle.std.proofs.lemmas.Option.{slice_get-map, slice_get-get_or, slice_get_within}
 use Rattle.wa_model.specs.Blocking.{Note}
-use Rattle.wa_model.specs.World.{Actor, HasNotes, IsNext}
+use Rattle.world_model.specs.World.{Actor, HasNotes, IsNext}
 use Rattle.event_order.specs.Dues.{IsLeast, HaveEnded, unless_ended, due_of}
 use Rattle.event_order.specs.Laws.{LeastIsNext, EndedIsOver}
 

@@ -3,7 +3,7 @@ use Rattle.std.proofs.Common.{◌≡◌, ◌<◌, ◌+◌, ℕ, suc, zero, true,
 use Rattle.std.specs.List.{list_any, remove}
 use Rattle.std.proofs.lemmas.List.{drop_more}
 use Rattle.wa_model.specs.declared.answers.Detach.{Detach}
-use Rattle.wa_model.specs.World.{Device, is_named, taken_out, detached, detached_if}
+use Rattle.world_model.specs.World.{Device, is_named, taken_out, detached, detached_if}
 use Rattle.device_port.specs.Listed.{IsFirstOf}
 use Rattle.device_port.proofs.Places.{pick_true, pick_false, or_left, or_right, some_is, removed}
 use Rattle.event_order.specs.Left.{Counted, without, without_if, left_before}

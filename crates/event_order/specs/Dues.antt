@@ -1,7 +1,7 @@
 -- When programs are due: for each of them a tick, and none once it has ended.
 use Rattle.std.specs.Prelude.{◌≡◌, ◌<◌, ◌≤◌, ◌⊎◌, ℕ, List, [], ◌∷◌, Option, Some, None, slice_get}
 use Rattle.wa_model.specs.Blocking.{Note}
-use Rattle.wa_model.specs.World.{Actor}
+use Rattle.world_model.specs.World.{Actor}
 
 -- The least pair of due tick and number among the programs that haven't ended.
 pub record IsLeast (dues : List (Option ℕ)) (program due : ℕ) : Type 0 where

@@ -1,6 +1,6 @@
 -- Due ticks and the order of events in a world.
 use Rattle.std.specs.Prelude.{◌≡◌, ℕ, List, map}
-use Rattle.wa_model.specs.World.{Actor, IsNext, IsOver}
+use Rattle.world_model.specs.World.{Actor, IsNext, IsOver}
 use Rattle.event_order.specs.Dues.{IsLeast, HaveEnded, due_of}
 
 -- The program with the least pair is the one that goes on in a world,

@@ -1,7 +1,7 @@
 -- The devices that are left once some are taken out, each with its count of faults.
 use Rattle.std.specs.Prelude.{ℕ, List, [], ◌∷◌, Bool, true, false, nat_eq, if◌then◌else◌}
 use Rattle.wa_model.specs.declared.answers.Detach.{Detach}
-use Rattle.wa_model.specs.World.{Device, is_named}
+use Rattle.world_model.specs.World.{Device, is_named}
 
 -- a device as a world sees it, with its count of faults
 pub record Counted : Type 0 where

@@ -1,7 +1,7 @@
 -- What is shown of a program's memory after its end.
 use Rattle.std.specs.Prelude.{◌≡◌, ◌≤◌, ℕ, suc, nat_eq, List, drop, ◌∷◌, slice_get, Option, Some, None, if◌then◌else◌}
 use Rattle.std.specs.List.{filter_map}
-use Rattle.wa_model.specs.World.{Look}
+use Rattle.world_model.specs.World.{Look}
 use Rattle.event_order.specs.declared.shows.Show.{Show}
 
 -- the part of a program's memory that is shown

@@ -1,7 +1,7 @@
 //! The devices that are taken out before an event.
 
 ghost use Rattle.std.specs.Prelude.{◌≡◌, nat_eq};
-ghost use Rattle.wa_model.specs.World.{taken_out, detached, detached_if};
+ghost use Rattle.world_model.specs.World.{taken_out, detached, detached_if};
 ghost use Rattle.device_port.specs.Listed.{of_all};
 ghost use Rattle.event_order.specs.Left.{without, without_if, left_before};
 

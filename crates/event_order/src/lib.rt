@@ -1,5 +1,7 @@
-//! The order of events among several programs that share a list of devices, as the definition of a world has it
-//! (`wa_model/specs/World.antt`), over what is known of the programs: when each is due, and whether it has ended.
+//! The order of events among several programs that share a list of devices.
+//!
+//! It is that of the definition of a world (`world_model/specs/World.antt`), over what is known of the programs: when each is due, and
+//! whether it has ended.
 //!
 //! - `next_turn`: the unfinished program with the least pair of due tick and number. That it is the one that goes on in a
 //!   world is the law `least_is_next`; that all programs of a world have ended where there is none, `none_is_over`.

@@ -1,14 +1,14 @@
 -- Goals of code.
 use Rattle.std.proofs.Common.{◌≡◌, ℕ, suc, zero, ◌+◌, ◌≤◌, ◌⊎◌, List, [], ◌∷◌, ◌++◌, Option, Some, None, refl, ap, sym, ◌∙◌, subst, arith, append_assoc, length, length-append, Bool}
 use Rattle.std.proofs.Common.{true, false, inl, inr, cond, nat_eq, nat_le, eqb-true, IsTrue}
-use Rattle.wa_types.specs.Opcodes.{Form, no_immediate, a_zero, an_index, an_index_and_zero, an_access, some_labels, a_constant, a_float, follows, form, is_nest}
-use Rattle.wa_types.specs.Binary.{Placed, Immediates, nothing, zero_byte, index, index_and_zero, access, labels, constant, float, RawCode, ended, otherwise, instr, nested, branched}
+use Rattle.wa_types.specs.Opcodes.{Form, no_immediate, a_zero, an_index, an_index_and_zero, an_access, some_labels, a_bulk, a_constant, a_float, follows, form, is_nest}
+use Rattle.wa_types.specs.Binary.{Placed, Immediates, nothing, zero_byte, index, index_and_zero, access, labels, constant, float, bulk, RawCode, ended, otherwise, instr, nested, branched}
 use Rattle.wa_types.specs.Begun.{Goal, code, exact, number, count, block_type, entries, some_indices, next, where_true, immediates, immediates_of, behind_opcode, an_unsigned}
 use Rattle.wa_types.specs.Spells.{◌▸◌, Exactly, Number, SignedNumber, Vector, Byte, BlockType, ImmediatesOf, CodeOf}
 use Rattle.file_laws.proofs.OpcodeTable.{HasBytes, has_bytes}
 use Rattle.file_laws.proofs.Runs.{some_same, not_none}
 use Rattle.file_laws.proofs.GoalReads.{Any, Reads, reads_none, reads_then, reads_as, Begins, reads_first, Goes, takes_one, gives_one, to_right, on_right}
-use Rattle.file_laws.proofs.Leaves.{reads_number, reads_signed, reads_exact, reads_float, reads_block_type, tested, alone, with_nothing}
+use Rattle.file_laws.proofs.Leaves.{reads_number, reads_signed, reads_exact, reads_bulk, reads_float, reads_block_type, tested, alone, with_nothing}
 use Rattle.file_laws.proofs.Vectors.{reads_count}
 
 pub reads_index : Reads (entries some_indices 1 ∷ []) (Any Number)
@@ -26,6 +26,7 @@ Behind an_access = Any Number ▸ Any Number
 Behind some_labels = Any (Vector Number) ▸ Any Number
 Behind (a_constant bits) = Any (SignedNumber bits)
 Behind (a_float n) = λ at bytes. length bytes ≡ n
+Behind a_bulk = Any (λ n. ImmediatesOf (bulk n))
 
 reads_behind : (f : Form) → HasBytes f → Reads (immediates f) (Behind f)
 unfolding Behind HasBytes
@@ -37,6 +38,7 @@ reads_behind an_access h = reads_then number (number ∷ []) (Any Number) (Any N
 reads_behind some_labels h = reads_then (count some_indices) (number ∷ []) (Any (Vector Number)) (Any Number) (reads_count Number some_indices reads_index) reads_number
 reads_behind (a_constant bits) h = reads_signed bits
 reads_behind (a_float n) h = reads_float n h
+reads_behind a_bulk h = reads_bulk
 
 to_behind : (o : Immediates) (at : ℕ) (a : List ℕ) → ImmediatesOf o at a → Behind (form o) at a
 unfolding Behind
@@ -48,6 +50,7 @@ to_behind (access align offset) at a h = (h.0, h.1, h.2, (align, h.3), (offset, 
 to_behind (labels targets last) at a h = (h.0, h.1, h.2, (targets, h.3), (last, h.4))
 to_behind (constant bits n) at a h = (n, h)
 to_behind (float bytes) at a h = ap length h
+to_behind (bulk n) at a h = (n, h)
 
 from_behind : (f : Form) (at : ℕ) (a : List ℕ) → Behind f at a → (o : Immediates) × (form o ≡ f) × ImmediatesOf o at a
 unfolding Behind
@@ -59,6 +62,7 @@ from_behind an_access at a h = (access h.3.0 h.4.0, refl, (h.0, h.1, h.2, h.3.1,
 from_behind some_labels at a h = (labels h.3.0 h.4.0, refl, (h.0, h.1, h.2, h.3.1, h.4.1))
 from_behind (a_constant bits) at a h = (constant bits h.0, refl, h.1)
 from_behind (a_float n) at a h = (float a, ap a_float h, refl)
+from_behind a_bulk at a h = (bulk h.0, refl, h.1)
 
 -- what stands behind an opcode
 data Opcode (first_arm : Bool) (op : ℕ) (new : List Goal) : Type 0 where

@@ -1,19 +1,18 @@
 -- The bytes that code is written as spell it.
-use Rattle.std.proofs.Common.{◌≡◌, ℕ, suc, ◌+◌, ◌<◌, ◌≤◌, ◌^◌, ◌⊎◌, List, [], ◌∷◌, ◌++◌, Option, Some, None, Bool, true, false, refl, ap, sym, ◌∙◌, subst, arith, append_assoc, length}
-use Rattle.std.proofs.Common.{length-append, IsTrue, nat_eq, nat_lt, nat_le, ◌%◌, ◌/◌, cond, inl, inr, All, flat_map, ◌&&◌, ◌||◌}
+use Rattle.std.proofs.Common.{◌≡◌, ℕ, suc, ◌+◌, ◌<◌, ◌≤◌, ◌^◌, ◌⊎◌, List, [], ◌∷◌, ◌++◌, Option, Some, None, Bool, true, false, refl, ap, sym, ◌∙◌, subst, arith, append_assoc, length, length-append, IsTrue, nat_eq, nat_lt, nat_le, ◌%◌, ◌/◌, cond, inl, inr, All, flat_map, ◌&&◌, ◌||◌}
 use Rattle.std.proofs.lemmas.List.Elements.{All-head, All-tail}
 use Rattle.std.proofs.lemmas.Bool.{leb-true, le-leb}
+use Rattle.std.specs.List.{AllZip}
 use Rattle.wa_types.specs.declared.values.ValType.{ValType}
 use Rattle.wa_types.specs.declared.values.ValType.TheVariants.{I32, I64}
 use Rattle.wa_types.specs.declared.values.Value.TheVariants.{I32 as value_32, I64 as value_64}
-use Rattle.wa_types.specs.Leb.{spelled, shortest, shortest_signed}
+use Rattle.leb_numbers.specs.Leb.{spelled, shortest, shortest_signed}
 use Rattle.wa_types.specs.Encoding.{vector, type_byte, block_type_byte, plain_bytes, shape_byte, else_bytes, code_bytes, expression_bytes}
 use Rattle.wa_types.specs.Opcodes.{an_access, follows, form, within, is_nest, is_load_op, is_store_op, plain_opcode, plain_immediates}
 use Rattle.wa_types.specs.Binary.{Placed, RawCode, ended, otherwise, instr, nested, branched}
 use Rattle.wa_types.specs.Spells.{Number, Items, Vector, ValueType, BlockType, ImmediatesOf, CodeOf}
-use Rattle.wa_types.specs.Syntax.{Basic, nop, drop, select, const, num, global_get, global_set, load, store, memory_size, memory_grow, Plain, basic, local_get, local_set, local_tee, br}
-use Rattle.wa_types.specs.Syntax.{br_if, br_table, return, unreachable, call, call_indirect, Shape, a_block, a_loop, Code, done, plain, nest, branch}
-use Rattle.wa_types.specs.Reading.{HasKind, IsCode, Each}
+use Rattle.wa_types.specs.Syntax.{Basic, nop, drop, select, const, num, global_get, global_set, load, store, memory_size, memory_grow, memory_copy, memory_fill, Plain, basic, local_get, local_set, local_tee, br, br_if, br_table, return, unreachable, call, call_indirect, Shape, a_block, a_loop, Code, done, plain, nest, branch}
+use Rattle.wa_types.specs.Reading.{HasKind, IsCode}
 use Rattle.wa_types.specs.Sizes.{PlainFits, CodeFits}
 use Rattle.file_laws.proofs.NumberWriting.{shortest_spells, shortest_signed_spells}
 use Rattle.file_laws.proofs.OpcodeTable.{num_follows, within_above}
@@ -27,14 +26,14 @@ pub record Written {X Y : Type 0} (f : X → ℕ → List ℕ → Type 0) (R : X
 -- items one behind another
 pub write_items : {X Y : Type 0} (f : X → ℕ → List ℕ → Type 0) (R : X → Y → Type 0) (Fits : Y → Type 0) (enc : Y → List ℕ)
     → ((y : Y) → Fits y → length (enc y) < 2 ^ 32 → (at : ℕ) → Written f R y at (enc y)) → (ys : List Y) → All Fits ys → length (flat_map enc ys) < 2 ^ 32 → (at : ℕ)
-    → Written (Items f) (Each R) ys at (flat_map enc ys)
+    → Written (Items f) (AllZip R) ys at (flat_map enc ys)
 write_items f R Fits enc w [] a h at = record { raw = []; spelled = refl; means = tt }
 write_items f R Fits enc w (y ∷ ys) a h at =
     let s = w y (All-head Fits y ys a) (omega (arith, h, length-append (enc y) (flat_map enc ys))) at in
     let t = write_items f R Fits enc w ys (All-tail Fits y ys a) (omega (arith, h, length-append (enc y) (flat_map enc ys))) (at + length (enc y)) in
     record { raw = s.raw ∷ t.raw; spelled = (enc y, flat_map enc ys, refl, s.spelled, t.spelled); means = (s.means, t.means) }
 
-pub each_length : {X Y : Type 0} (R : X → Y → Type 0) (xs : List X) (ys : List Y) → Each R xs ys → length xs ≡ length ys
+pub each_length : {X Y : Type 0} (R : X → Y → Type 0) (xs : List X) (ys : List Y) → AllZip R xs ys → length xs ≡ length ys
 each_length R [] [] e = refl
 each_length R [] (y ∷ ys) e = absurd e
 each_length R (x ∷ xs) [] e = absurd e
@@ -47,7 +46,7 @@ fewer enc some (y ∷ ys) = omega (arith, some y, fewer enc some ys, length-appe
 
 pub write_vector : {X Y : Type 0} (f : X → ℕ → List ℕ → Type 0) (R : X → Y → Type 0) (Fits : Y → Type 0) (enc : Y → List ℕ)
     → ((y : Y) → Fits y → length (enc y) < 2 ^ 32 → (at : ℕ) → Written f R y at (enc y)) → ((y : Y) → 0 < length (enc y)) → (ys : List Y) → All Fits ys → length (vector enc ys) < 2 ^ 32
-    → (at : ℕ) → Written (Vector f) (Each R) ys at (vector enc ys)
+    → (at : ℕ) → Written (Vector f) (AllZip R) ys at (vector enc ys)
 write_vector f R Fits enc w some ys a h at =
     let head = shortest (length ys) in
     let s = write_items f R Fits enc w ys a (omega (arith, h, length-append head (flat_map enc ys))) (at + length head) in
@@ -62,7 +61,7 @@ write_vector f R Fits enc w some ys a h at =
 abbrev pub Itself : {X : Type 0} → X → X → Type 0
 Itself x y = x ≡ y
 
-pub each_itself : {X : Type 0} (xs ys : List X) → Each Itself xs ys → xs ≡ ys
+pub each_itself : {X : Type 0} (xs ys : List X) → AllZip Itself xs ys → xs ≡ ys
 each_itself [] [] e = refl
 each_itself [] (y ∷ ys) e = absurd e
 each_itself (x ∷ xs) [] e = absurd e
@@ -173,6 +172,20 @@ write_basic (store op align offset) h at =
     }
 write_basic memory_size h at = record { back = 0x00 ∷ []; whole = refl; spelled = refl; follows = refl; kind = tt }
 write_basic memory_grow h at = record { back = 0x00 ∷ []; whole = refl; spelled = refl; follows = refl; kind = tt }
+write_basic memory_copy h at = record {
+  back = shortest 10 ++ 0x00 ∷ 0x00 ∷ [];
+  whole = refl;
+  spelled = (shortest 10, 0x00 ∷ 0x00 ∷ [], refl, shortest_spells 10 (omega arith), refl);
+  follows = refl;
+  kind = tt;
+}
+write_basic memory_fill h at = record {
+  back = shortest 11 ++ 0x00 ∷ [];
+  whole = refl;
+  spelled = (shortest 11, 0x00 ∷ [], refl, shortest_spells 11 (omega arith), refl);
+  follows = refl;
+  kind = tt;
+}
 
 write_plain : (p : Plain) → PlainFits p → length (plain_bytes p) < 2 ^ 32 → (at : ℕ) → PlainWritten p at (plain_bytes p)
 unfolding follows

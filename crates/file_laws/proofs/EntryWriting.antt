@@ -1,5 +1,6 @@
 -- The bytes that entries of sections are written as spell them.
 use Rattle.std.proofs.Common.{ℕ, ◌+◌, ◌<◌, ◌^◌, List, [], ◌∷◌, ◌++◌, Option, Some, None, refl, arith, append_assoc, length, length-append, IsUtf8, All}
+use Rattle.std.specs.List.{AllZip}
 use Rattle.wa_types.specs.declared.values.ValType.{ValType}
 use Rattle.wa_types.specs.declared.syntax.Run.{Run}
 use Rattle.wa_types.specs.declared.syntax.Limits.{Limits}
@@ -7,13 +8,12 @@ use Rattle.wa_types.specs.declared.syntax.ImportKind.{ImportKind}
 use Rattle.wa_types.specs.declared.syntax.ImportKind.TheVariants.{Func as a_func_import, Table as a_table_import, Memory as a_memory_import, Global as a_global_import}
 use Rattle.wa_types.specs.declared.syntax.Import.{Import}
 use Rattle.wa_types.specs.declared.syntax.Export.{Export}
-use Rattle.wa_types.specs.Leb.{shortest}
-use Rattle.wa_types.specs.Encoding.{vector, sized, name_bytes, type_byte, func_type_bytes, max_bytes, limits_bytes, table_bytes, mutable_byte, global_type_bytes, expression_bytes}
-use Rattle.wa_types.specs.Encoding.{import_kind_bytes, import_bytes, global_bytes, space_byte, export_bytes, elem_bytes, segment_bytes, run_bytes, merged, body_bytes}
+use Rattle.leb_numbers.specs.Leb.{shortest}
+use Rattle.wa_types.specs.Encoding.{vector, sized, type_byte, func_type_bytes, max_bytes, limits_bytes, table_bytes, mutable_byte, global_type_bytes, expression_bytes, import_kind_bytes, import_bytes, global_bytes, space_byte, export_bytes, elem_bytes, segment_bytes, run_bytes, merged, body_bytes}
 use Rattle.wa_types.specs.Syntax.{FuncType, Func, GlobalDef, Elem, Segment}
 use Rattle.wa_types.specs.Binary.{raw_func, raw_table, raw_memory, raw_global}
 use Rattle.wa_types.specs.Spells.{Vector, Text, ValueType, FunctionType, Maximum, LimitsOf, TableType, ImportKindOf, ImportOf, GlobalOf, ExportOf, ElementOf, RunOf, BodyOf, SegmentOf}
-use Rattle.wa_types.specs.Reading.{Each, IsFuncType, IsKind, IsImport, IsGlobal, IsElem, IsRun, IsBody, IsSegment, IsValueType}
+use Rattle.wa_types.specs.Reading.{IsFuncType, IsKind, IsImport, IsGlobal, IsElem, IsRun, IsBody, IsSegment, IsValueType}
 use Rattle.wa_types.specs.Sizes.{CodeFits, MaxFits, LimitsFit, KindFits, ImportFits, ExportFits, ElemFits, SegmentFits}
 use Rattle.file_laws.proofs.NumberWriting.{shortest_spells}
 use Rattle.file_laws.proofs.CodeWriting.{Written, write_vector, write_numbers, number_some, write_type, write_expression, Itself}
@@ -24,7 +24,7 @@ type_some t = omega arith
 every : {Y : Type 0} (ys : List Y) → All (λ y. Unit {0}) ys
 every ys = λ k d h. tt
 
-write_types : (ts : List ValType) → length (vector (λ t. type_byte t ∷ []) ts) < 2 ^ 32 → (at : ℕ) → Written (Vector ValueType) (Each IsValueType) ts at (vector (λ t. type_byte t ∷ []) ts)
+write_types : (ts : List ValType) → length (vector (λ t. type_byte t ∷ []) ts) < 2 ^ 32 → (at : ℕ) → Written (Vector ValueType) (AllZip IsValueType) ts at (vector (λ t. type_byte t ∷ []) ts)
 write_types ts l at = write_vector ValueType IsValueType (λ t. Unit {0}) (λ t. type_byte t ∷ []) write_type type_some ts (every ts) l at
 
 pub write_func_type : (t : FuncType) → Unit {0} → length (func_type_bytes t) < 2 ^ 32 → (at : ℕ) → Written FunctionType IsFuncType t at (func_type_bytes t)
@@ -55,7 +55,7 @@ table_spelled l h at = (0x70 ∷ [], limits_bytes l, refl, refl, limits_spelled 
 pub write_table : (l : Limits) → LimitsFit l → length (table_bytes l) < 2 ^ 32 → (at : ℕ) → Written TableType Itself l at (table_bytes l)
 write_table l h n at = record { raw = l; spelled = table_spelled l h at; means = refl }
 
-pub name_spelled : (n : List ℕ) → IsUtf8 n → length (name_bytes n) < 2 ^ 32 → (at : ℕ) → Text n at (name_bytes n)
+pub name_spelled : (n : List ℕ) → IsUtf8 n → length (sized n) < 2 ^ 32 → (at : ℕ) → Text n at (sized n)
 name_spelled n u l at = (shortest (length n), n, refl, shortest_spells (length n) (omega (arith, l, length-append (shortest (length n)) n)), (refl, u))
 
 write_kind : (k : ImportKind) → KindFits k → (at : ℕ) → Written ImportKindOf IsKind k at (import_kind_bytes k)
@@ -68,8 +68,8 @@ write_kind (a_global_import t m) h at =
 
 pub write_import : (i : Import) → ImportFits i → length (import_bytes i) < 2 ^ 32 → (at : ℕ) → Written ImportOf IsImport i at (import_bytes i)
 write_import i h l at =
-    let m = name_bytes i.module in
-    let b = name_bytes i.base in
+    let m = sized i.module in
+    let b = sized i.base in
     let k = import_kind_bytes i.kind in
     let len : length m + (length b + length k) < 2 ^ 32 = omega (arith, l, length-append (m ++ b) k, length-append m b) in
     let w = write_kind i.kind h.kind (at + length m + length b) in
@@ -91,7 +91,7 @@ write_global g h l at =
 
 pub write_export : (x : Export) → ExportFits x → length (export_bytes x) < 2 ^ 32 → (at : ℕ) → Written ExportOf Itself x at (export_bytes x)
 write_export x h l at =
-    let n = name_bytes x.name in
+    let n = sized x.name in
     let b = space_byte x.space ∷ shortest x.index in
     record {
       raw = x;
@@ -192,13 +192,13 @@ kind_some (a_memory_import l) = omega arith
 kind_some (a_global_import t m) = omega arith
 
 pub import_some : (i : Import) → 0 < length (import_bytes i)
-import_some i = omega (arith, kind_some i.kind, length-append (name_bytes i.module ++ name_bytes i.base) (import_kind_bytes i.kind))
+import_some i = omega (arith, kind_some i.kind, length-append (sized i.module ++ sized i.base) (import_kind_bytes i.kind))
 
 pub global_some : (g : GlobalDef) → 0 < length (global_bytes g)
 global_some g = omega arith
 
 pub export_some : (x : Export) → 0 < length (export_bytes x)
-export_some x = omega (arith, length-append (name_bytes x.name) (space_byte x.space ∷ shortest x.index))
+export_some x = omega (arith, length-append (sized x.name) (space_byte x.space ∷ shortest x.index))
 
 pub elem_some : (e : Elem) → 0 < length (elem_bytes e)
 elem_some e = omega (arith, number_some e.table, length-append (shortest e.table ++ expression_bytes e.offset) (vector shortest e.funcs), length-append (shortest e.table) (expression_bytes e.offset))

@@ -1,15 +1,11 @@
 -- Sections that are spelled lead to the end of a file; and what a whole file is.
-use Rattle.std.proofs.Common.{◌≡◌, ℕ, suc, zero, ◌+◌, ◌<◌, ◌≤◌, List, [], ◌∷◌, ◌++◌, map, flat_map, Some, refl, ap, sym, ◌∙◌, subst, arith, add-zero, append_assoc, append-nil, length}
-use Rattle.std.proofs.Common.{length-append, true, ◌&&◌, nat_eq, nat_lt}
+use Rattle.std.proofs.Common.{◌≡◌, ℕ, suc, zero, ◌+◌, ◌<◌, ◌≤◌, List, [], ◌∷◌, ◌++◌, map, flat_map, Some, refl, ap, sym, ◌∙◌, subst, arith, add-zero, append_assoc, append-nil, length, length-append, true, ◌&&◌, nat_eq, nat_lt}
 use Rattle.std.proofs.lemmas.Bool.{lt-ltb}
-use Rattle.wa_types.specs.Leb.{IsUnsigned}
+use Rattle.leb_numbers.specs.Leb.{IsUnsigned}
 use Rattle.wa_types.specs.Encoding.{preamble}
 use Rattle.wa_types.specs.Binary.{Section, custom, types, imports, functions, tables, memories, globals, exports, start, elements, bodies, segments}
-use Rattle.wa_types.specs.Begun.{Goal, exact, sections, size, head, until, rest, entries, EntryKind, some_types, some_imports, some_functions, some_tables, some_memories, some_globals}
-use Rattle.wa_types.specs.Begun.{some_exports, some_elements, some_bodies, some_segments, next, Inside, settled, where_true, some_of, name_of, may_follow, content, Leads, arrived, IsWhole}
-use Rattle.wa_types.specs.Begun.{Begun, part, start as start_goals}
-use Rattle.wa_types.specs.Spells.{◌▸◌, Exactly, Number, Items, Vector, Sized, Text, FunctionType, LimitsOf, TableType, ImportOf, GlobalOf, ExportOf, ElementOf, BodyOf, SegmentOf, SectionOf}
-use Rattle.wa_types.specs.Spells.{Rising, Spells, sorts_in, bodies_in}
+use Rattle.wa_types.specs.Begun.{Goal, exact, sections, size, head, until, rest, entries, EntryKind, some_types, some_imports, some_functions, some_tables, some_memories, some_globals, some_exports, some_elements, some_bodies, some_segments, next, Inside, settled, where_true, some_of, name_of, may_follow, content, Leads, arrived, IsWhole, Begun, part, start as start_goals}
+use Rattle.wa_types.specs.Spells.{◌▸◌, Exactly, Number, Items, Vector, Sized, Text, FunctionType, LimitsOf, TableType, ImportOf, GlobalOf, ExportOf, ElementOf, BodyOf, SegmentOf, SectionOf, Rising, Spells, sorts_in, bodies_in}
 use Rattle.file_laws.proofs.Runs.{some_same, leads_on, begun_front}
 use Rattle.file_laws.proofs.GoalReads.{Any, Reads, Goes, gives_one, reads_until, reads_none, reads_then, reads_as}
 use Rattle.file_laws.proofs.Leaves.{reads_name_of, text_to, reads_exact}

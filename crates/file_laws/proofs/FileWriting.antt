@@ -1,28 +1,24 @@
 -- The bytes that a module is written as spell it.
-use Rattle.std.proofs.Common.{◌≡◌, ℕ, suc, ◌+◌, ◌<◌, ◌^◌, ◌⊎◌, List, [], ◌∷◌, ◌++◌, map, Option, Some, None, Bool, true, false, refl, ap, sym, ◌∙◌, subst, arith, add-zero, append_assoc}
-use Rattle.std.proofs.Common.{append-nil, length, length-append, All, flat_map, cond, nat_eq, eqb-true, inl, inr, min, option_to_list, sum_by}
+use Rattle.std.proofs.Common.{◌≡◌, ℕ, suc, ◌+◌, ◌<◌, ◌^◌, ◌⊎◌, List, [], ◌∷◌, ◌++◌, map, Option, Some, None, Bool, true, false, refl, ap, sym, ◌∙◌, subst, arith, add-zero, append_assoc, append-nil, length, length-append, All, flat_map, cond, nat_eq, eqb-true, inl, inr, min, option_to_list, sum_by}
 use Rattle.std.proofs.lemmas.List.Elements.{All-head, All-tail, All-cons, All-filter}
 use Rattle.std.proofs.lemmas.List.Concat.{flat_map-append}
 use Rattle.std.proofs.lemmas.List.Sums.{sum_by-cons}
+use Rattle.std.specs.List.{AllZip}
+use Rattle.std.specs.Option.{is_some}
 use Rattle.wa_types.specs.declared.syntax.Run.{Run}
 use Rattle.wa_types.specs.declared.syntax.Limits.{Limits}
 use Rattle.wa_types.specs.declared.syntax.Export.{Export}
-use Rattle.wa_types.specs.Leb.{shortest}
-use Rattle.wa_types.specs.Encoding.{vector, sized, name_bytes, func_type_bytes, limits_bytes, table_bytes, import_bytes, global_bytes, export_bytes, elem_bytes, segment_bytes, run_onto}
-use Rattle.wa_types.specs.Encoding.{same_type, merged, body_bytes, section, start_section, custom_bytes, customs_behind, preamble, sections, with_customs, Enc}
-use Rattle.wa_types.specs.Norm.{has_some, has_start, written_flags, placed_at, placed_behind, lowered, Norm}
+use Rattle.leb_numbers.specs.Leb.{shortest}
+use Rattle.wa_types.specs.Encoding.{vector, sized, func_type_bytes, limits_bytes, table_bytes, import_bytes, global_bytes, export_bytes, elem_bytes, segment_bytes, run_onto, same_type, merged, body_bytes, section, start_section, custom_bytes, customs_behind, preamble, sections, with_customs, Enc}
+use Rattle.wa_types.specs.Norm.{has_some, written_flags, placed_at, placed_behind, lowered, Norm}
 use Rattle.wa_types.specs.Sizes.{CodeFits, LimitsFit, ImportFits, FuncFits, ExportFits, ElemFits, SegmentFits, CustomFits, StartFits, WellFormed}
 use Rattle.wa_types.specs.Syntax.{Func, GlobalDef, Custom, Module}
-use Rattle.wa_types.specs.Binary.{RawType, RawImport, RawGlobal, RawElem, RawBody, RawSegment, Section, custom, types, imports, functions, tables, memories, globals, exports, start}
-use Rattle.wa_types.specs.Binary.{elements, bodies, segments, section_id}
-use Rattle.wa_types.specs.Spells.{◌▸◌, Exactly, Number, Items, Vector, Sized, FunctionType, LimitsOf, TableType, ImportOf, GlobalOf, ExportOf, ElementOf, BodyOf, SegmentOf, SectionOf}
-use Rattle.wa_types.specs.Spells.{Rising, sorts_in, bodies_in}
-use Rattle.wa_types.specs.Reading.{Each, IsFuncType, IsImport, IsGlobal, IsElem, IsBody, IsSegment, types_in, imports_in, tables_in, memories_in, globals_in, exports_in, starts_in}
-use Rattle.wa_types.specs.Reading.{elements_in, segments_in, customs_of, IsModule, SpellsModule}
+use Rattle.wa_types.specs.Binary.{RawType, RawImport, RawGlobal, RawElem, RawBody, RawSegment, Section, custom, types, imports, functions, tables, memories, globals, exports, start, elements, bodies, segments, section_id}
+use Rattle.wa_types.specs.Spells.{◌▸◌, Exactly, Number, Items, Vector, Sized, FunctionType, LimitsOf, TableType, ImportOf, GlobalOf, ExportOf, ElementOf, BodyOf, SegmentOf, SectionOf, Rising, sorts_in, bodies_in}
+use Rattle.wa_types.specs.Reading.{IsFuncType, IsImport, IsGlobal, IsElem, IsBody, IsSegment, types_in, imports_in, tables_in, memories_in, globals_in, exports_in, starts_in, elements_in, segments_in, customs_of, IsModule, SpellsModule}
 use Rattle.file_laws.proofs.NumberWriting.{shortest_spells}
 use Rattle.file_laws.proofs.CodeWriting.{Written, write_vector, number_some, Itself, each_itself, each_length}
-use Rattle.file_laws.proofs.EntryWriting.{write_func_type, write_limits, write_table, write_import, write_global, write_export, write_elem, write_segment, BodyFits, merged_func, write_body}
-use Rattle.file_laws.proofs.EntryWriting.{name_spelled, func_type_some, limits_some, table_some, import_some, global_some, export_some, elem_some, segment_some, body_some}
+use Rattle.file_laws.proofs.EntryWriting.{write_func_type, write_limits, write_table, write_import, write_global, write_export, write_elem, write_segment, BodyFits, merged_func, write_body, name_spelled, func_type_some, limits_some, table_some, import_some, global_some, export_some, elem_some, segment_some, body_some}
 
 -- a section of entries, where there are some
 abbrev pub of_entries : {X : Type 0} → (List X → Section) → List X → List Section
@@ -60,7 +56,7 @@ SpelledFrom at id _ _ cs = ⊥
 
 custom_spelled : (c : Custom) → CustomFits c → length (custom_bytes c) < 2 ^ 32 → (at : ℕ) → SectionOf (custom c.name c.bytes) at (custom_bytes c)
 custom_spelled c h l at =
-    let n = name_bytes c.name in
+    let n = sized c.name in
     let content = n ++ c.bytes in
     let size = shortest (length content) in
     let len : length size + (length n + length c.bytes) < 2 ^ 32 = omega (arith, l, length-append size content, length-append n c.bytes) in (
@@ -192,14 +188,14 @@ start_held None = refl
 start_held (Some x) = refl
 
 -- what a section's place holds
-slot_of : {X Y : Type 0} (R : X → Y → Type 0) (id : ℕ) (mk : List X → Section) → ((xs : List X) → section_id (mk xs) ≡ id) → (xs : List X) (ys : List Y) → Each R xs ys
+slot_of : {X Y : Type 0} (R : X → Y → Type 0) (id : ℕ) (mk : List X → Section) → ((xs : List X) → section_id (mk xs) ≡ id) → (xs : List X) (ys : List Y) → AllZip R xs ys
     → Slot id (has_some ys) (of_entries mk xs)
 slot_of R id mk h [] [] e = vacant
 slot_of R id mk h [] (y ∷ ys) e = absurd e
 slot_of R id mk h (x ∷ xs) [] e = absurd e
 slot_of R id mk h (x ∷ xs) (y ∷ ys) e = filled (mk (x ∷ xs)) (h (x ∷ xs))
 
-slot_start : (o : Option ℕ) → Slot 8 (has_start o) (of_start o)
+slot_start : (o : Option ℕ) → Slot 8 (is_some o) (of_start o)
 slot_start None = vacant
 slot_start (Some x) = filled (start x) refl
 
@@ -207,9 +203,9 @@ slot_start (Some x) = filled (start x) refl
 record SectionWritten {X Y : Type 0} (f : X → ℕ → List ℕ → Type 0) (R : X → Y → Type 0) (mk : List X → Section) (ys : List Y) (at : ℕ) (bytes : List ℕ) : Type 0 where
   raws : List X
   spelled : Items SectionOf (of_entries mk raws) at bytes
-  means : Each R raws ys
+  means : AllZip R raws ys
 
-same_length : {X Y : Type 0} (R : X → Y → Type 0) (xs : List X) (y : Y) (ys : List Y) (at : ℕ) (mk : List X → Section) (bytes : List ℕ) → Each R xs (y ∷ ys) → SectionOf (mk xs) at bytes
+same_length : {X Y : Type 0} (R : X → Y → Type 0) (xs : List X) (y : Y) (ys : List Y) (at : ℕ) (mk : List X → Section) (bytes : List ℕ) → AllZip R xs (y ∷ ys) → SectionOf (mk xs) at bytes
     → Items SectionOf (of_entries mk xs) at bytes
 same_length R [] y ys at mk bytes e h = absurd e
 same_length R (x ∷ xs) y ys at mk bytes e h = (bytes, [], sym (append-nil bytes), h, refl)
@@ -293,7 +289,7 @@ sorts_fit : (fs : List Func) → All FuncFits fs → All (λ (f : Func). f.sort 
 sorts_fit [] a = λ k d l. absurd (omega (arith, l))
 sorts_fit (f ∷ fs) a = All-cons (λ (f : Func). f.sort < 2 ^ 32) f fs (All-head FuncFits f fs a).sort (sorts_fit fs (All-tail FuncFits f fs a))
 
-each_map : {X Y Z : Type 0} (R : X → Z → Type 0) (h : Y → Z) (xs : List X) (ys : List Y) → Each (λ x y. R x (h y)) xs ys → Each R xs (map h ys)
+each_map : {X Y Z : Type 0} (R : X → Z → Type 0) (h : Y → Z) (xs : List X) (ys : List Y) → AllZip (λ x y. R x (h y)) xs ys → AllZip R xs (map h ys)
 each_map R h [] [] e = tt
 each_map R h [] (y ∷ ys) e = absurd e
 each_map R h (x ∷ xs) [] e = absurd e
@@ -306,7 +302,7 @@ HasSort n f = n ≡ f.sort
 write_sort : (f : Func) → f.sort < 2 ^ 32 → length (shortest f.sort) < 2 ^ 32 → (at : ℕ) → Written Number HasSort f at (shortest f.sort)
 write_sort f h l at = record { raw = f.sort; spelled = shortest_spells f.sort h; means = refl }
 
-sorts_are : (ns : List ℕ) (fs : List Func) → Each HasSort ns fs → map (λ (f : Func). f.sort) (map merged_func fs) ≡ ns
+sorts_are : (ns : List ℕ) (fs : List Func) → AllZip HasSort ns fs → map (λ (f : Func). f.sort) (map merged_func fs) ≡ ns
 sorts_are [] [] e = refl
 sorts_are [] (f ∷ fs) e = absurd e
 sorts_are (n ∷ ns) [] e = absurd e
@@ -339,16 +335,16 @@ record Known (m : Module) (at : ℕ) : Type 0 where
   spelled : SpelledFrom at 1 (of_entries types raw_types ∷ of_entries imports raw_imports ∷ of_entries functions raw_functions ∷ of_entries tables raw_tables
       ∷ of_entries memories raw_memories ∷ of_entries globals raw_globals ∷ of_entries exports raw_exports ∷ of_start m.start ∷ of_entries elements raw_elements
       ∷ of_entries bodies raw_bodies ∷ of_entries segments raw_segments ∷ []) (sections m) m.customs
-  is_types : Each IsFuncType raw_types m.types
-  is_imports : Each IsImport raw_imports m.imports
-  is_functions : Each HasSort raw_functions m.funcs
-  is_tables : Each Itself raw_tables m.tables
-  is_memories : Each Itself raw_memories m.memories
-  is_globals : Each IsGlobal raw_globals m.globals
-  is_exports : Each Itself raw_exports m.exports
-  is_elements : Each IsElem raw_elements m.elems
-  is_bodies : Each (λ raw f. IsBody raw (merged_func f)) raw_bodies m.funcs
-  is_segments : Each IsSegment raw_segments m.segments
+  is_types : AllZip IsFuncType raw_types m.types
+  is_imports : AllZip IsImport raw_imports m.imports
+  is_functions : AllZip HasSort raw_functions m.funcs
+  is_tables : AllZip Itself raw_tables m.tables
+  is_memories : AllZip Itself raw_memories m.memories
+  is_globals : AllZip IsGlobal raw_globals m.globals
+  is_exports : AllZip Itself raw_exports m.exports
+  is_elements : AllZip IsElem raw_elements m.elems
+  is_bodies : AllZip (λ raw f. IsBody raw (merged_func f)) raw_bodies m.funcs
+  is_segments : AllZip IsSegment raw_segments m.segments
 
 known : (m : Module) (at : ℕ) → WellFormed m → All FewLocals m.funcs → BelowFrom (sections m) → Known m at
 known m at w few l =
@@ -645,17 +641,17 @@ module _ (m : Module) (at : ℕ) (k : Known m at) where
   are_module : IsModule all_sections (Norm m)
   unfolding Norm
   are_module = record {
-    types = subst (λ z. Each IsFuncType z m.types) (sym has_types) k.is_types;
-    imports = subst (λ z. Each IsImport z m.imports) (sym has_imports) k.is_imports;
+    types = subst (λ z. AllZip IsFuncType z m.types) (sym has_types) k.is_types;
+    imports = subst (λ z. AllZip IsImport z m.imports) (sym has_imports) k.is_imports;
     sorts = sorts_are k.raw_functions m.funcs k.is_functions ∙ sym has_functions;
-    funcs = subst (λ z. Each IsBody z (map merged_func m.funcs)) (sym has_bodies) (each_map IsBody merged_func k.raw_bodies m.funcs k.is_bodies);
+    funcs = subst (λ z. AllZip IsBody z (map merged_func m.funcs)) (sym has_bodies) (each_map IsBody merged_func k.raw_bodies m.funcs k.is_bodies);
     tables = sym (has_tables ∙ each_itself k.raw_tables m.tables k.is_tables);
     memories = sym (has_memories ∙ each_itself k.raw_memories m.memories k.is_memories);
-    globals = subst (λ z. Each IsGlobal z m.globals) (sym has_globals) k.is_globals;
+    globals = subst (λ z. AllZip IsGlobal z m.globals) (sym has_globals) k.is_globals;
     exports = sym (has_exports ∙ each_itself k.raw_exports m.exports k.is_exports);
     start = sym has_start_x;
-    elems = subst (λ z. Each IsElem z m.elems) (sym has_elements) k.is_elements;
-    segments = subst (λ z. Each IsSegment z m.segments) (sym has_segments) k.is_segments;
+    elems = subst (λ z. AllZip IsElem z m.elems) (sym has_elements) k.is_elements;
+    segments = subst (λ z. AllZip IsSegment z m.segments) (sym has_segments) k.is_segments;
     customs = sym has_customs;
   }
 

@@ -1,16 +1,15 @@
 -- Goals of one item, and of few.
-use Rattle.std.proofs.Common.{◌≡◌, ℕ, suc, zero, ◌+◌, ◌<◌, ◌≤◌, ◌⊎◌, List, [], ◌∷◌, ◌++◌, Option, Some, None, refl, ap, sym, ◌∙◌, subst, arith, append-nil, length, Bool, true, false, inl}
-use Rattle.std.proofs.Common.{inr, nat_eq, nat_le, eqb-true, IsTrue, IsUtf8}
+use Rattle.std.proofs.Common.{◌≡◌, ℕ, suc, zero, ◌+◌, ◌<◌, ◌≤◌, ◌⊎◌, List, [], ◌∷◌, ◌++◌, Option, Some, None, refl, ap, sym, ◌∙◌, subst, arith, append-nil, length, Bool, true, false, inl, inr, nat_eq, nat_le, eqb-true, IsTrue, IsUtf8, map}
 use Rattle.std.proofs.lemmas.Bool.{leb-true}
+use Rattle.std.specs.Option.{option_map}
 use Rattle.wa_types.specs.declared.syntax.Space.{Space}
 use Rattle.wa_types.specs.declared.syntax.Space.TheVariants.{Func as a_func, Table as a_table, Memory as a_memory, Global as a_global}
-use Rattle.wa_types.specs.Leb.{IsUnsigned}
+use Rattle.leb_numbers.specs.Leb.{IsUnsigned}
 use Rattle.wa_types.specs.Encoding.{space_byte, mutable_byte}
-use Rattle.wa_types.specs.Opcodes.{is_value_type, is_block_type}
-use Rattle.wa_types.specs.Binary.{RawKind, raw_func, raw_table, raw_memory, raw_global}
-use Rattle.wa_types.specs.Begun.{Goal, exact, number, name, value_type, block_type, mutable, import_kind, space, limits, signed, name_bytes, float_bytes, Item, a_byte, an_unsigned, a_signed}
-use Rattle.wa_types.specs.Begun.{a_name, a_constant_of, IsItem, wants, next, behind_flag, behind_kind, name_of}
-use Rattle.wa_types.specs.Spells.{◌▸◌, Exactly, Number, SignedNumber, Text, ValueType, BlockType, Maximum, LimitsOf, TableType, GlobalType, ImportKindOf}
+use Rattle.wa_types.specs.Opcodes.{is_value_type, is_block_type, zeros_of}
+use Rattle.wa_types.specs.Binary.{bulk, RawKind, raw_func, raw_table, raw_memory, raw_global}
+use Rattle.wa_types.specs.Begun.{Goal, exact, number, name, value_type, block_type, mutable, import_kind, space, limits, signed, bulk_number, name_bytes, float_bytes, Item, a_byte, an_unsigned, a_signed, a_name, a_constant_of, IsItem, wants, next, behind_flag, behind_kind, name_of}
+use Rattle.wa_types.specs.Spells.{◌▸◌, Exactly, Number, SignedNumber, Text, ValueType, BlockType, Maximum, LimitsOf, TableType, GlobalType, ImmediatesOf, ImportKindOf}
 use Rattle.file_laws.proofs.GoalReads.{Any, Reads, ReadsNext, reads_none, reads_then, reads_as, Begins, reads_first, next_where}
 
 -- an item and nothing behind it
@@ -209,6 +208,40 @@ reads_float n some = reads_as _ (Begins (a_constant_of n) (λ v k. Exactly [])) 
     (λ at a h. (alone (a_constant_of n) at a h).1.1)
     (λ at a h. with_nothing (a_constant_of n) at 0 a (some, h, refl))
     (reads_first (float_bytes n) (λ v k. Exactly []) refl refl (λ v k. reads_none))
+
+-- ---- the number of a copy or a fill, and its zero bytes
+
+reads_bytes : (zs : List ℕ) → Reads (map exact zs) (Exactly zs)
+reads_bytes [] = reads_none
+reads_bytes (z ∷ zs) = reads_as (map exact (z ∷ zs)) (Exactly (z ∷ []) ▸ Exactly zs) (Exactly (z ∷ zs))
+    (λ at a h. h.2 ∙ ap (λ u. u ++ h.1) h.3 ∙ ap (λ u. z ∷ u) h.4)
+    (λ at a h. (z ∷ [], zs, h, refl, refl))
+    (reads_then (exact z) (map exact zs) (Exactly (z ∷ [])) (Exactly zs) (reads_exact z) (reads_bytes zs))
+
+-- what stands behind such a number
+abbrev Zeros : ℕ → ℕ → List ℕ → Type 0
+Zeros v at bytes = zeros_of v ≡ Some bytes
+
+no_zeros : (o : Option (List ℕ)) (zs : List ℕ) → o ≡ None → o ≡ Some zs → ⊥
+no_zeros o zs e f = cc
+
+same_zeros : (o : Option (List ℕ)) (zs ys : List ℕ) → o ≡ Some zs → o ≡ Some ys → ys ≡ zs
+same_zeros o zs ys e f = cc
+
+next_zeros : (v : ℕ) → ReadsNext (option_map (map exact) (zeros_of v)) (Zeros v)
+next_zeros v = by_zeros (zeros_of v) refl where
+  by_zeros : (o : Option (List ℕ)) → zeros_of v ≡ o → ReadsNext (option_map (map exact) o) (Zeros v)
+  by_zeros None e = λ at bytes h. no_zeros (zeros_of v) bytes e h
+  by_zeros (Some zs) e = reads_as (map exact zs) (Exactly zs) (Zeros v) (λ at a h. e ∙ ap (λ z. Some z) (sym h)) (λ at a h. same_zeros (zeros_of v) zs a e h) (reads_bytes zs)
+
+pub reads_bulk : Reads (bulk_number ∷ []) (Any (λ n. ImmediatesOf (bulk n)))
+unfolding next
+reads_bulk = reads_as _ (Begins an_unsigned (λ v k. Zeros v)) (Any (λ n. ImmediatesOf (bulk n)))
+    (λ at a b. (b.value, (b.front, b.back, b.whole, b.is_item, b.follows)))
+    (λ at a h.
+    let t = h.1 in
+    record { front = t.0; back = t.1; value = h.0; whole = t.2; is_item = t.3; follows = t.4 })
+    (reads_first bulk_number (λ v k. Zeros v) refl refl (λ v k. next_zeros v))
 
 -- behind the byte of an import's kind
 pub data Kinded (v at : ℕ) (bytes : List ℕ) : Type 0 where

@@ -7,7 +7,9 @@ pub mod FileReads
 pub mod FileWriting
 pub mod GoalReads
 pub mod Items
+pub mod Judged
 pub mod Leaves
+pub mod Noting
 pub mod NumberReading
 pub mod NumberWriting
 pub mod OneFault
@@ -16,7 +18,12 @@ pub mod OpcodeTable
 pub mod PlainOf
 pub mod Runs
 pub mod SectionReads
+pub mod Showings
 pub mod SpelledFits
+pub mod Telling
+pub mod TellingCode
+pub mod TellingEntries
+pub mod TellingFile
 pub mod Unique
 pub mod UniqueCode
 pub mod Vectors

@@ -1,9 +1,9 @@
 -- Numbers are read as they are spelled, whatever follows them.
 use Rattle.std.proofs.Common.{◌≡◌, ℕ, suc, ◌+◌, ◌-◌, ◌*◌, ◌^◌, ◌<◌, ◌≤◌, inl, inr, List, [], ◌∷◌, ◌++◌, Result, Ok, Err, refl, ap, sym, arith, length, nat_lt, true, false, Bool, cond}
 use Rattle.std.proofs.lemmas.Bool.{lt-ltb, le-ltb}
-use Rattle.wa_types.specs.LebFault.{LebFault}
-use Rattle.wa_types.specs.LebFault.TheVariants.{Short, Long, Bits}
-use Rattle.wa_types.specs.Leb.{unsigned_at, signed_at, last_signed, above, IsUnsigned, IsSigned}
+use Rattle.leb_numbers.specs.declared.leb.LebFault.{LebFault}
+use Rattle.leb_numbers.specs.declared.leb.LebFault.TheVariants.{Short, Long, Bits}
+use Rattle.leb_numbers.specs.Leb.{unsigned_at, signed_at, last_signed, above, IsUnsigned, IsSigned}
 
 above_short : (b : ℕ) (r : Result ℕ LebFault) → (above b r ≡ Err Short → ⊥) → r ≡ Err Short → ⊥
 above_short b (Ok x) h e = absurd (cc)

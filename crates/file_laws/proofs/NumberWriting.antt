@@ -4,7 +4,7 @@ use Rattle.std.proofs.Math.Nat.{pow-suc}
 use Rattle.std.proofs.Math.Pow.{pow_mono}
 use Rattle.std.proofs.lemmas.Nat.{pow-add}
 use Rattle.std.proofs.lemmas.Bool.{lt-ltb, le-ltb, le-leb, lt-leb, cases_lt}
-use Rattle.wa_types.specs.Leb.{IsUnsigned, IsSigned, last_signed, spelled, shortest, signed_spelled, shortest_signed}
+use Rattle.leb_numbers.specs.Leb.{IsUnsigned, IsSigned, last_signed, spelled, shortest, signed_spelled, shortest_signed}
 
 spelled_low : (k n : ℕ) → n < 128 → spelled (suc k) n ≡ n ∷ []
 unfolding spelled

@@ -1,5 +1,6 @@
 -- The sections of a file are at most one module.
 use Rattle.std.proofs.Common.{◌≡◌, ℕ, List, [], ◌∷◌, map, Option, Some, None, refl, ap, sym, ◌∙◌, subst, arith, length, option_to_list}
+use Rattle.std.specs.List.{AllZip}
 use Rattle.wa_types.specs.declared.values.ValType.{ValType}
 use Rattle.wa_types.specs.declared.values.ValType.TheVariants.{I32, I64}
 use Rattle.wa_types.specs.declared.syntax.Run.{Run}
@@ -10,7 +11,7 @@ use Rattle.wa_types.specs.Encoding.{type_byte, block_type_byte, shape_byte}
 use Rattle.wa_types.specs.Syntax.{Plain, Shape, a_block, a_loop, Code, done, plain, nest, branch, FuncType, Func, GlobalDef, Elem, Segment, Module}
 use Rattle.wa_types.specs.Binary.{Placed, Immediates, RawCode, ended, otherwise, instr, nested, branched, RawType, RawKind, raw_func, raw_table, raw_memory, raw_global, RawImport, RawGlobal}
 use Rattle.wa_types.specs.Binary.{RawElem, RawRun, RawBody, RawSegment, Section}
-use Rattle.wa_types.specs.Reading.{IsPlain, IsCode, Each, IsValueType, IsFuncType, IsKind, IsImport, IsGlobal, IsElem, IsRun, IsBody, IsSegment, IsModule, SpellsModule}
+use Rattle.wa_types.specs.Reading.{IsPlain, IsCode, IsValueType, IsFuncType, IsKind, IsImport, IsGlobal, IsElem, IsRun, IsBody, IsSegment, IsModule, SpellsModule}
 use Rattle.wa_types.specs.Opcodes.{plain_opcode, plain_immediates}
 use Rattle.file_laws.proofs.PlainOf.{plain_of, plain_again}
 use Rattle.file_laws.proofs.UniqueCode.{one_file}
@@ -90,7 +91,7 @@ one_code (branched op t x y) done d e f h i = absurd h
 one_code (branched op t x y) (plain p m) d e f h i = absurd h
 one_code (branched op t x y) (nest s g k m) d e f h i = absurd h
 
-one_each : {X Y : Type 0} (R : X → Y → Type 0) → ((x : X) (y z : Y) → R x y → R x z → y ≡ z) → (xs : List X) (ys zs : List Y) → Each R xs ys → Each R xs zs → ys ≡ zs
+one_each : {X Y : Type 0} (R : X → Y → Type 0) → ((x : X) (y z : Y) → R x y → R x z → y ≡ z) → (xs : List X) (ys zs : List Y) → AllZip R xs ys → AllZip R xs zs → ys ≡ zs
 one_each R u [] [] [] h k = refl
 one_each R u [] [] (z ∷ zs) h k = absurd k
 one_each R u [] (y ∷ ys) zs h k = absurd h
@@ -101,7 +102,7 @@ one_each R u (x ∷ xs) (y ∷ ys) (z ∷ zs) h k =
     let b = one_each R u xs ys zs h.1 k.1 in
     λ i. a i ∷ b i
 
-types_one : (xs : List Placed) (ys zs : List ValType) → Each IsValueType xs ys → Each IsValueType xs zs → ys ≡ zs
+types_one : (xs : List Placed) (ys zs : List ValType) → AllZip IsValueType xs ys → AllZip IsValueType xs zs → ys ≡ zs
 types_one xs ys zs h k = one_each IsValueType (λ x y z a b. one_type y z (sym a ∙ b)) xs ys zs h k
 
 func_type_one : (x : RawType) (s t : FuncType) → IsFuncType x s → IsFuncType x t → s ≡ t
@@ -153,7 +154,7 @@ run_one x s t h k =
 tail_same : (m n : ℕ) (ms ns : List ℕ) → m ∷ ms ≡ n ∷ ns → (m ≡ n) × (ms ≡ ns)
 tail_same m n ms ns e = ((let p : m ≡ n = cc in p), (let p : ms ≡ ns = cc in p))
 
-funcs_one : (xs : List RawBody) (fs gs : List Func) → map (λ (f : Func). f.sort) fs ≡ map (λ (f : Func). f.sort) gs → Each IsBody xs fs → Each IsBody xs gs → fs ≡ gs
+funcs_one : (xs : List RawBody) (fs gs : List Func) → map (λ (f : Func). f.sort) fs ≡ map (λ (f : Func). f.sort) gs → AllZip IsBody xs fs → AllZip IsBody xs gs → fs ≡ gs
 funcs_one [] [] [] e h k = refl
 funcs_one [] [] (g ∷ gs) e h k = absurd k
 funcs_one [] (f ∷ fs) gs e h k = absurd h

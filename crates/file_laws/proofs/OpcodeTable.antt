@@ -1,4 +1,4 @@
--- The table of what follows an opcode: no operator is followed by anything, nothing stands above the numeric opcodes, and floats have bytes.
+-- The table of what follows an opcode: no operator is followed by anything, nothing stands above the prefix, and floats have bytes.
 use Rattle.std.proofs.Common.{◌≡◌, ℕ, suc, ◌+◌, ◌<◌, inl, inr, Bool, true, false, Option, Some, None, refl, sym, ◌∙◌, subst, arith, nat_le, nat_lt, ◌&&◌}
 use Rattle.std.proofs.lemmas.Bool.{cases_lt, lt-leb, ltb-true, ne_eqb}
 use Rattle.wa_types.specs.declared.operators.NumOp.{NumOp}
@@ -16,8 +16,8 @@ num_follows _ = refl
 pub within_above : (low high n : ℕ) → high < n → within low high n ≡ false
 within_above low high n h = elim (nat_le low n) as (λ t. (t && nat_le n high) ≡ false) [ true ↦ lt-leb n high h | false ↦ refl ]
 
--- the table ends with the numeric opcodes
-pub none_follows : (op : ℕ) → last_numeric < op → follows op ≡ None
+-- the table ends with the prefix
+pub none_follows : (op : ℕ) → 0xFC < op → follows op ≡ None
 unfolding follows
 none_follows op h =
     rw (
@@ -35,15 +35,16 @@ none_follows op h =
       ne_eqb op 0x42 (λ e. omega (arith, h, e)),
       ne_eqb op 0x43 (λ e. omega (arith, h, e)),
       ne_eqb op 0x44 (λ e. omega (arith, h, e)),
-      within_above first_numeric last_numeric op h,
+      within_above first_numeric last_numeric op (omega (arith, h)),
+      ne_eqb op 0xFC (λ e. omega (arith, h, e)),
     ) refl
 
 not_followed : (f : Form) → None ≡ Some f → ⊥
 not_followed f e = cc
 
 -- an opcode that the table knows is at most the last
-pub known_low : (op : ℕ) (f : Form) → follows op ≡ Some f → op < 0 + suc last_numeric
-known_low op f e = elim (cases_lt last_numeric op) [
+pub known_low : (op : ℕ) (f : Form) → follows op ≡ Some f → op < 0 + suc 0xFC
+known_low op f e = elim (cases_lt 0xFC op) [
   | inl past ↦ absurd (not_followed f (sym (none_follows op past) ∙ e))
   | inr low ↦ omega (arith, low)
 ]
@@ -62,10 +63,10 @@ unfolding is_sized HasBytes
 sized (a_float n) e = ltb-true 0 n e
 sized _ e = tt
 
-all_sized : all_from (λ op. is_sized (follows op)) 0 (suc last_numeric) ≡ true
+all_sized : all_from (λ op. is_sized (follows op)) 0 (suc 0xFC) ≡ true
 unfolding all_from follows is_sized
 all_sized = refl
 
 -- the table's floats have bytes
 pub has_bytes : (op : ℕ) (f : Form) → follows op ≡ Some f → HasBytes f
-has_bytes op f e = sized f (subst (λ o. is_sized o ≡ true) e (passes (λ k. is_sized (follows k)) 0 (suc last_numeric) op (omega arith) (known_low op f e) all_sized))
+has_bytes op f e = sized f (subst (λ o. is_sized o ≡ true) e (passes (λ k. is_sized (follows k)) 0 (suc 0xFC) op (omega arith) (known_low op f e) all_sized))

@@ -5,8 +5,8 @@ use Rattle.wa_types.specs.declared.values.Value.TheVariants.{I32 as value_32, I6
 use Rattle.wa_types.specs.declared.operators.NumOp.{NumOp}
 use Rattle.wa_types.specs.Operators.{opcode_of}
 use Rattle.wa_types.specs.Opcodes.{is_load_op, plain_opcode, plain_immediates}
-use Rattle.wa_types.specs.Binary.{Immediates, nothing, zero_byte, index, index_and_zero, access, labels, constant, float}
-use Rattle.wa_types.specs.Syntax.{nop, drop, select, const, num, global_get, global_set, load, store, memory_size, memory_grow, Plain, basic, local_get, local_set, local_tee, br, br_if}
+use Rattle.wa_types.specs.Binary.{Immediates, nothing, zero_byte, index, index_and_zero, access, labels, constant, float, bulk}
+use Rattle.wa_types.specs.Syntax.{nop, drop, select, const, num, global_get, global_set, load, store, memory_size, memory_grow, memory_copy, memory_fill, Plain, basic, local_get, local_set, local_tee, br, br_if}
 use Rattle.wa_types.specs.Syntax.{br_table, return, unreachable, call, call_indirect}
 use Rattle.wa_types.specs.Reading.{HasKind}
 use Rattle.wa_types.proofs.OperatorLemmas.{operator_at, operator_again, operator_low}
@@ -27,6 +27,7 @@ plain_of op (access align offset) = cond (is_load_op op) (basic (load op align o
 plain_of op (labels targets last) = br_table targets last
 plain_of op (constant bits n) = cond (nat_eq bits 32) (basic (const (value_32 n))) (basic (const (value_64 n)))
 plain_of op (float bytes) = basic nop
+plain_of op (bulk n) = cond (nat_eq n 10) (basic memory_copy) (basic memory_fill)
 
 bare_at : (op : ℕ) (n : NumOp) → 0x45 ≤ op → operator_at op ≡ n → plain_of op nothing ≡ basic (num n)
 unfolding plain_of
@@ -60,6 +61,8 @@ plain_again (basic (load op align offset)) h = rw h refl
 plain_again (basic (store op align offset)) h = rw (not_load op (store_range op h).0) refl
 plain_again (basic memory_size) h = refl
 plain_again (basic memory_grow) h = refl
+plain_again (basic memory_copy) h = refl
+plain_again (basic memory_fill) h = refl
 plain_again (local_get x) h = refl
 plain_again (local_set x) h = refl
 plain_again (local_tee x) h = refl

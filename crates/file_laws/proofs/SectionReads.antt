@@ -1,11 +1,9 @@
 -- Sections, and whole files.
-use Rattle.std.proofs.Common.{◌≡◌, ℕ, suc, zero, ◌+◌, ◌-◌, ◌<◌, ◌≤◌, ◌⊎◌, List, [], ◌∷◌, ◌++◌, Some, refl, ap, sym, ◌∙◌, subst, arith, add-zero, append_assoc, append-nil, length}
-use Rattle.std.proofs.Common.{length-append, Bool, true, false, not, ◌&&◌, inl, inr, nat_eq, nat_le, nat_lt, eqb-true}
+use Rattle.std.proofs.Common.{◌≡◌, ℕ, suc, zero, ◌+◌, ◌-◌, ◌<◌, ◌≤◌, ◌⊎◌, List, [], ◌∷◌, ◌++◌, Some, refl, ap, sym, ◌∙◌, subst, arith, add-zero, append_assoc, append-nil, length, length-append, Bool, true, false, not, ◌&&◌, inl, inr, nat_eq, nat_le, nat_lt, eqb-true}
 use Rattle.std.proofs.lemmas.Bool.{ltb-true, ltb-false, lt-ltb}
-use Rattle.wa_types.specs.Leb.{IsUnsigned}
+use Rattle.leb_numbers.specs.Leb.{IsUnsigned}
 use Rattle.wa_types.specs.Binary.{Section, custom, types, imports, functions, tables, memories, globals, exports, start, elements, bodies, segments}
-use Rattle.wa_types.specs.Begun.{Goal, sections, size, head, until, rest, entries, EntryKind, some_types, some_imports, some_functions, some_tables, some_memories, some_globals, some_exports}
-use Rattle.wa_types.specs.Begun.{some_elements, some_bodies, some_segments, next, settled, where_true, some_of, name_of, may_follow, content, Leads, arrived, item}
+use Rattle.wa_types.specs.Begun.{Goal, sections, size, head, until, rest, entries, EntryKind, some_types, some_imports, some_functions, some_tables, some_memories, some_globals, some_exports, some_elements, some_bodies, some_segments, next, settled, where_true, some_of, name_of, may_follow, content, Leads, arrived, item}
 use Rattle.wa_types.specs.Spells.{◌▸◌, Exactly, Number, Items, Vector, Sized, FunctionType, LimitsOf, TableType, ImportOf, GlobalOf, ExportOf, ElementOf, BodyOf, SegmentOf, SectionOf, Rising}
 use Rattle.file_laws.proofs.Runs.{some_same, not_none}
 use Rattle.file_laws.proofs.GoalReads.{Any, Reads, Goes, First, takes_one, leads_one, reads_until, first_item}

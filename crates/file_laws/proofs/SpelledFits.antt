@@ -1,28 +1,24 @@
 -- What is spelled is well formed.
-use Rattle.std.proofs.Common.{◌≡◌, ℕ, ◌+◌, ◌-◌, ◌*◌, ◌<◌, ◌^◌, ◌⊎◌, inl, inr, List, [], ◌∷◌, ◌++◌, map, flat_map, length, Option, Some, None, Bool, true, false, Result, Ok, Err, refl, ap}
-use Rattle.std.proofs.Common.{sym, ◌∙◌, subst, arith, nat_lt, cond, IsUtf8, All, option_to_list}
+use Rattle.std.proofs.Common.{◌≡◌, ℕ, ◌+◌, ◌-◌, ◌*◌, ◌<◌, ◌^◌, ◌⊎◌, inl, inr, List, [], ◌∷◌, ◌++◌, map, flat_map, length, Option, Some, None, Bool, true, false, Result, Ok, Err, refl, ap, sym, ◌∙◌, subst, arith, nat_lt, cond, IsUtf8, All, option_to_list}
 use Rattle.std.proofs.lemmas.Bool.{ltb-true, ltb-false}
 use Rattle.std.proofs.lemmas.Nat.{pow-add}
 use Rattle.std.proofs.Math.Pow.{pow_mono}
 use Rattle.std.proofs.lemmas.List.Elements.{All-head, All-tail, All-cons, All-append}
-use Rattle.wa_types.specs.LebFault.{LebFault}
-use Rattle.wa_types.specs.LebFault.TheVariants.{Bits}
+use Rattle.std.specs.List.{AllZip}
+use Rattle.leb_numbers.specs.declared.leb.LebFault.{LebFault}
+use Rattle.leb_numbers.specs.declared.leb.LebFault.TheVariants.{Bits}
 use Rattle.wa_types.specs.declared.values.Value.TheVariants.{I32 as value_32, I64 as value_64}
 use Rattle.wa_types.specs.declared.syntax.Limits.{Limits}
 use Rattle.wa_types.specs.declared.syntax.ImportKind.{ImportKind}
 use Rattle.wa_types.specs.declared.syntax.Import.{Import}
 use Rattle.wa_types.specs.declared.syntax.Export.{Export}
 use Rattle.wa_types.specs.declared.syntax.Run.{Run}
-use Rattle.wa_types.specs.Leb.{IsUnsigned, IsSigned, last_signed}
-use Rattle.wa_types.specs.Syntax.{nop, drop, select, const, num, global_get, global_set, load, store, memory_size, memory_grow, Plain, basic, local_get, local_set, local_tee, br, br_if}
-use Rattle.wa_types.specs.Syntax.{br_table, return, unreachable, call, call_indirect, Code, done, plain, nest, branch, Func, GlobalDef, Elem, Segment, Module}
-use Rattle.wa_types.specs.Binary.{Placed, Immediates, RawCode, ended, otherwise, instr, nested, branched, RawKind, raw_func, raw_table, raw_memory, raw_global, RawImport, RawGlobal, RawElem}
-use Rattle.wa_types.specs.Binary.{RawRun, RawBody, RawSegment, Section, custom, types, imports, functions, tables, memories, globals, exports, start, elements, bodies, segments, section_id}
-use Rattle.wa_types.specs.Spells.{◌▸◌, Exactly, Number, Items, Vector, Sized, Text, Maximum, LimitsOf, TableType, ImmediatesOf, CodeOf, ImportKindOf, ImportOf, GlobalOf, ExportOf, ElementOf}
-use Rattle.wa_types.specs.Spells.{RunOf, BodyOf, SegmentOf, SectionOf, sorts_in, bodies_in}
-use Rattle.wa_types.specs.Reading.{HasKind, IsPlain, IsCode, Each, IsKind, IsImport, IsGlobal, IsElem, IsRun, IsBody, IsSegment, imports_in, tables_in, memories_in}
+use Rattle.leb_numbers.specs.Leb.{IsUnsigned, IsSigned, last_signed}
+use Rattle.wa_types.specs.Syntax.{nop, drop, select, const, num, global_get, global_set, load, store, memory_size, memory_grow, memory_copy, memory_fill, Plain, basic, local_get, local_set, local_tee, br, br_if, br_table, return, unreachable, call, call_indirect, Code, done, plain, nest, branch, Func, GlobalDef, Elem, Segment, Module}
+use Rattle.wa_types.specs.Binary.{Placed, Immediates, RawCode, ended, otherwise, instr, nested, branched, RawKind, raw_func, raw_table, raw_memory, raw_global, RawImport, RawGlobal, RawElem, RawRun, RawBody, RawSegment, Section, custom, types, imports, functions, tables, memories, globals, exports, start, elements, bodies, segments, section_id}
+use Rattle.wa_types.specs.Spells.{◌▸◌, Exactly, Number, Items, Vector, Sized, Text, Maximum, LimitsOf, TableType, ImmediatesOf, CodeOf, ImportKindOf, ImportOf, GlobalOf, ExportOf, ElementOf, RunOf, BodyOf, SegmentOf, SectionOf, sorts_in, bodies_in}
+use Rattle.wa_types.specs.Reading.{HasKind, IsPlain, IsCode, IsKind, IsImport, IsGlobal, IsElem, IsRun, IsBody, IsSegment, imports_in, tables_in, memories_in, globals_in, exports_in, starts_in, elements_in, segments_in, customs_of, SpellsModule}
 use Rattle.wa_types.specs.Opcodes.{plain_immediates}
-use Rattle.wa_types.specs.Reading.{globals_in, exports_in, starts_in, elements_in, segments_in, customs_of, SpellsModule}
 use Rattle.wa_types.specs.Sizes.{PlainFits, CodeFits, MaxFits, LimitsFit, KindFits, ImportFits, FuncFits, ExportFits, ElemFits, SegmentFits, CustomFits, StartFits, WellFormed}
 
 pow_split : (bits : ℕ) → 7 < bits → 2 ^ bits ≡ 128 * 2 ^ (bits - 7)
@@ -98,7 +94,7 @@ seen_vector f xs at a h b = seen_items f xs (at + length h.0) h.1 h.4 (right_byt
 
 -- each of what is spelled fits, as what it is
 each_fits : {X Y : Type 0} (f : X → ℕ → List ℕ → Type 0) (R : X → Y → Type 0) (Fits : Y → Type 0) → ((x : X) (y : Y) → Seen f x → R x y → Fits y) → (xs : List X) (ys : List Y)
-    → All (Seen f) xs → Each R xs ys → All Fits ys
+    → All (Seen f) xs → AllZip R xs ys → All Fits ys
 each_fits f R Fits h [] [] s e = none_seen Fits
 each_fits f R Fits h [] (y ∷ ys) s e = absurd e
 each_fits f R Fits h (x ∷ xs) [] s e = absurd e
@@ -138,6 +134,8 @@ operands_fit (basic (load op align offset)) at a k h b = (k, unsigned_fits 32 h.
 operands_fit (basic (store op align offset)) at a k h b = (k, unsigned_fits 32 h.0 align h.3, unsigned_fits 32 h.1 offset h.4)
 operands_fit (basic memory_size) at a k h b = tt
 operands_fit (basic memory_grow) at a k h b = tt
+operands_fit (basic memory_copy) at a k h b = tt
+operands_fit (basic memory_fill) at a k h b = tt
 operands_fit (local_get x) at a k h b = unsigned_fits 32 a x h
 operands_fit (local_set x) at a k h b = unsigned_fits 32 a x h
 operands_fit (local_tee x) at a k h b = unsigned_fits 32 a x h
@@ -267,7 +265,7 @@ body_fits x f s r n =
       body = (code_fits x.code f.body done false (s.place + length h.0 + length g.0) g.1 g.4 (right_bytes g.0 g.1 c) r.body).0;
     }
 
-funcs_fit : (xs : List RawBody) (fs : List Func) (ns : List ℕ) → All (Seen BodyOf) xs → Each IsBody xs fs → map (λ (f : Func). f.sort) fs ≡ ns → All (λ n. n < 2 ^ 32) ns → All FuncFits fs
+funcs_fit : (xs : List RawBody) (fs : List Func) (ns : List ℕ) → All (Seen BodyOf) xs → AllZip IsBody xs fs → map (λ (f : Func). f.sort) fs ≡ ns → All (λ n. n < 2 ^ 32) ns → All FuncFits fs
 funcs_fit [] [] ns s e m a = none_seen FuncFits
 funcs_fit [] (f ∷ fs) ns s e m a = absurd e
 funcs_fit (x ∷ xs) [] ns s e m a = absurd e

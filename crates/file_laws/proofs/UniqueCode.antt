@@ -1,8 +1,8 @@
 -- Bytes spell at most one code, and one file.
-use Rattle.std.proofs.Common.{◌≡◌, ℕ, ◌+◌, List, [], ◌∷◌, ◌++◌, Some, Bool, true, false, refl, ap, sym, ◌∙◌, subst, arith, append_assoc, length, length-append, IsTrue, nat_eq, cond, inl, inr}
+use Rattle.std.proofs.Common.{◌≡◌, ℕ, ◌+◌, List, [], ◌∷◌, ◌++◌, Option, Some, Bool, true, false, refl, ap, sym, ◌∙◌, subst, arith, append_assoc, length, length-append, IsTrue, nat_eq, cond, inl, inr}
 use Rattle.wa_types.specs.Encoding.{preamble}
-use Rattle.wa_types.specs.Opcodes.{Form, follows, form, is_nest}
-use Rattle.wa_types.specs.Binary.{Placed, Immediates, nothing, zero_byte, index, index_and_zero, access, labels, constant, float, RawCode, ended, otherwise, instr, nested, branched, Section}
+use Rattle.wa_types.specs.Opcodes.{Form, follows, form, zeros_of, is_nest}
+use Rattle.wa_types.specs.Binary.{Placed, Immediates, nothing, zero_byte, index, index_and_zero, access, labels, constant, float, bulk, RawCode, ended, otherwise, instr, nested, branched, Section}
 use Rattle.wa_types.specs.Binary.{custom, types, imports, functions, tables, memories, globals, exports, start, elements, bodies, segments, section_id}
 use Rattle.wa_types.specs.Spells.{◌▸◌, Exactly, Number, SignedNumber, Items, Vector, Filling, Sized, Text, Byte, ValueType, BlockType, FunctionType, LimitsOf, TableType, GlobalType}
 use Rattle.wa_types.specs.Spells.{ImmediatesOf, CodeOf, ImportOf, GlobalOf, ExportOf, ElementOf, RunOf, BodyOf, SegmentOf, ContentOf, SectionOf, Spells}
@@ -10,6 +10,9 @@ use Rattle.file_laws.proofs.Items.{same_cut}
 use Rattle.file_laws.proofs.CodeReads.{nest_range, refuted, none_nest}
 use Rattle.file_laws.proofs.Unique.{Same, One, Pair, one_pair, one_view, one_exact, one_number, one_signed, one_vector, one_text, one_byte, one_value_type, one_block_type, one_global_type}
 use Rattle.file_laws.proofs.Unique.{one_function_type, one_limits, one_table, one_import, one_export, heads, one_head}
+
+same_zeros : (o p : Option (List ℕ)) (zs ys : List ℕ) → o ≡ Some zs → p ≡ Some ys → o ≡ p → zs ≡ ys
+same_zeros o p zs ys e f g = cc
 
 -- what follows an opcode, of one shape
 one_operands : (x y : Immediates) (at : ℕ) (a b c d : List ℕ) → form x ≡ form y → ImmediatesOf x at a → ImmediatesOf y at c → a ++ b ≡ c ++ d → Same x y a c
@@ -37,6 +40,11 @@ one_operands (float x) (float y) at a b c d n h k e =
     record { value = ap (λ z. float z) (sym h ∙ cut ∙ k); front = cut } where
       float_size : form (float x) ≡ form (float y) → length x ≡ length y
       float_size p = cc
+one_operands (bulk x) (bulk y) at a b c d n h k e =
+    let cut : h.0 ++ (h.1 ++ b) ≡ k.0 ++ (k.1 ++ d) = sym (append_assoc h.0 h.1 b) ∙ ap (λ z. z ++ b) (sym h.2) ∙ e ∙ ap (λ z. z ++ d) k.2 ∙ append_assoc k.0 k.1 d in
+    let o = one_number x y at h.0 (h.1 ++ b) k.0 (k.1 ++ d) h.3 k.3 cut in
+    let zeros = same_zeros (zeros_of x) (zeros_of y) h.1 k.1 h.4 k.4 (ap zeros_of o.value) in
+    record { value = ap (λ z. bulk z) o.value; front = h.2 ∙ ap (λ z. z ++ h.1) o.front ∙ ap (λ z. k.0 ++ z) zeros ∙ sym k.2 }
 one_operands nothing _ at a b c d n h k e = absurd (cc)
 one_operands zero_byte _ at a b c d n h k e = absurd (cc)
 one_operands (index x) _ at a b c d n h k e = absurd (cc)
@@ -45,6 +53,7 @@ one_operands (access x u) _ at a b c d n h k e = absurd (cc)
 one_operands (labels x u) _ at a b c d n h k e = absurd (cc)
 one_operands (constant bits x) _ at a b c d n h k e = absurd (cc)
 one_operands (float x) _ at a b c d n h k e = absurd (cc)
+one_operands (bulk x) _ at a b c d n h k e = absurd (cc)
 
 -- which instruction an opcode begins
 op_class : ℕ → ℕ

@@ -1,6 +1,6 @@
 -- Goals of counted entries.
 use Rattle.std.proofs.Common.{◌≡◌, ℕ, suc, zero, ◌+◌, ◌-◌, List, [], ◌∷◌, ◌++◌, Option, Some, None, refl, ap, sym, ◌∙◌, subst, arith, append_assoc, append-nil, length, false, nat_eq, nat_le}
-use Rattle.wa_types.specs.Leb.{IsUnsigned}
+use Rattle.leb_numbers.specs.Leb.{IsUnsigned}
 use Rattle.wa_types.specs.Begun.{Goal, count, entries, EntryKind, an_unsigned, next, entry, others, and_then, some_of}
 use Rattle.wa_types.specs.Spells.{◌▸◌, Exactly, Items, Vector}
 use Rattle.file_laws.proofs.Runs.{some_same, not_none}

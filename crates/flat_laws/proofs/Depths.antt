@@ -11,7 +11,7 @@ use Rattle.wa_types.specs.Modules.{or_empty, around}
 use Rattle.wa_model.specs.declared.flat.Operand.{Operand}
 use Rattle.wa_model.specs.declared.flat.Operand.TheVariants.{Local, Const}
 use Rattle.wa_model.specs.Store.{takes, gives}
-use Rattle.wa_model.specs.Flat.{Stmts, no_more, computes, calls, leaps, leaps_if, leaps_by, followed_by, all_got, set_to, slots_got, last_of, code_of}
+use Rattle.run_theory.specs.Flat.{Stmts, no_more, computes, calls, leaps, leaps_if, leaps_by, followed_by, all_got, set_to, slots_got, last_of, code_of}
 use Rattle.flat_laws.specs.Flatten.{Names, names, slots, top, top_of, carry_to, carry, carry_all, arrive, flat, flat_plain, flattened}
 use Rattle.flat_laws.proofs.ValidModules.{flat_pruned}
 

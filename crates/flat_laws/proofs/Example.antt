@@ -9,7 +9,7 @@ use Rattle.wa_types.specs.Points.{points}
 use Rattle.wa_types.specs.Frames.{results_in}
 use Rattle.wa_types.specs.Counts.{depth_of}
 use Rattle.wa_model.specs.declared.flat.Operand.TheVariants.{Local}
-use Rattle.wa_model.specs.Flat.{no_more, computes, copies, calls, leaps_if, leaps_by, nests, decides}
+use Rattle.run_theory.specs.Flat.{no_more, computes, copies, calls, leaps_if, leaps_by, nests, decides}
 use Rattle.flat_laws.specs.Flatten.{flat, flattened}
 
 -- (5 + the block's value), which is the parameter where it isn't 0, and else 1

@@ -7,18 +7,19 @@ use Rattle.std.proofs.lemmas.Bool.{eq-eqb, ne_eqb, ltb-false}
 use Rattle.std.proofs.lemmas.List.{append_assoc, length-map}
 use Rattle.std.proofs.lemmas.Option.{slice_get_within}
 use Rattle.std.proofs.Math.Seq.{drop-append_seam}
+use Rattle.std.specs.Option.{option_to_list}
 use Rattle.wa_types.specs.declared.values.ValType.{ValType}
 use Rattle.wa_types.specs.declared.syntax.Space.TheVariants.{Func as a_func}
 use Rattle.wa_types.specs.Syntax.{FuncType, Func, Elem, Module}
 use Rattle.wa_types.specs.Typing.{Around, Typed}
 use Rattle.wa_types.specs.Pausing.{is_told}
-use Rattle.wa_types.specs.Validity.{Valid, all_below, exported, start_indices, start_fits}
+use Rattle.wa_types.specs.Validity.{Valid, all_below, exported, start_fits}
 use Rattle.wa_types.specs.Modules.{imported, imported_func, func_imports, func_sorts, func_types, type_at, or_empty, declared_locals, defined_at, locals_of, around}
 use Rattle.wa_types.specs.Frames.{Pair, SlotPairs, ResultPairs}
-use Rattle.wa_model.specs.Flat.{FlatFunc}
-use Rattle.wa_model.specs.FlatFits.{func_of_flat, flat_or, funcs_with_flat, one_run}
-use Rattle.wa_model.specs.FlatTyped.{StmtsTyped}
-use Rattle.wa_model.proofs.FittingNames.{type_small, func_type_small}
+use Rattle.run_theory.specs.Flat.{FlatFunc}
+use Rattle.run_theory.specs.FlatFits.{func_of_flat, flat_or, funcs_with_flat, one_run}
+use Rattle.run_theory.specs.FlatTyped.{StmtsTyped}
+use Rattle.run_theory.proofs.FittingNames.{type_small, func_type_small}
 use Rattle.flat_laws.specs.Flatten.{flattened}
 use Rattle.flat_laws.specs.FlatModule.{extra_types, flat_func, flat_told, flat_module, IsFlat, IsPlaced, Flattened}
 use Rattle.flat_laws.proofs.Typing.{wide, body_types, body_stmts}
@@ -207,7 +208,7 @@ module _ (m : Module) where
       globals = v.globals;
       tables = v.tables;
       memories = v.memories;
-      funcs = ap (λ sorts. all_below (length sorts) (exported a_func m ++ start_indices m.start ++ flat_map (λ (e : Elem). e.funcs) m.elems)) (sorts_stay which) ∙ v.funcs;
+      funcs = ap (λ sorts. all_below (length sorts) (exported a_func m ++ option_to_list m.start ++ flat_map (λ (e : Elem). e.funcs) m.elems)) (sorts_stay which) ∙ v.funcs;
       start = ap (start_fits m.start) (types_stay which) ∙ v.start;
       names = v.names;
     }

@@ -5,7 +5,7 @@ use Rattle.std.proofs.Math.Seq.{drop-append_seam}
 use Rattle.wa_types.specs.Syntax.{local_get, Code, plain}
 use Rattle.wa_model.specs.declared.flat.Operand.{Operand}
 use Rattle.wa_model.specs.declared.flat.Operand.TheVariants.{Local}
-use Rattle.wa_model.specs.Flat.{all_got, slots_got, last_of}
+use Rattle.run_theory.specs.Flat.{all_got, slots_got, last_of}
 
 pub all_got_on : (xs ys : List Operand) (code : Code) → all_got (xs ++ ys) code ≡ all_got xs (all_got ys code)
 all_got_on [] ys code = refl

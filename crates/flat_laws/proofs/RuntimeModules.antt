@@ -17,10 +17,10 @@ use Rattle.wa_types.specs.Points.{func_points}
 use Rattle.wa_types.specs.Frames.{Pair, stands_at, greatest, pairs_from, SlotPairs, ResultPairs}
 use Rattle.wa_types.specs.Modules.{imported, imported_func, func_imports, func_sorts, func_type_at, type_at, or_empty, declared_locals, defined_at, locals_of, around}
 use Rattle.wa_types.proofs.TypingLemmas.{pruned_types}
-use Rattle.wa_model.proofs.BaseValid.{base_valid, base_wider}
-use Rattle.wa_model.proofs.GrownSteps.{front}
-use Rattle.wa_model.proofs.FittingSteps.{body_typed}
-use Rattle.wa_model.specs.Flat.{Stmts, FlatFunc, body_of}
+use Rattle.run_theory.proofs.BaseValid.{base_valid, base_wider}
+use Rattle.run_theory.proofs.GrownSteps.{front}
+use Rattle.run_theory.proofs.FittingSteps.{body_typed}
+use Rattle.run_theory.specs.Flat.{Stmts, FlatFunc, body_of}
 use Rattle.flat_laws.specs.Flatten.{Names, names, result_of, flat, flattened}
 use Rattle.flat_laws.specs.FlatModule.{extra_types, flat_module, IsPlaced, Flattened}
 use Rattle.flat_laws.proofs.FlatModules.{sorts_are, valid_is_flattened, defined_in}

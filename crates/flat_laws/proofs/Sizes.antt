@@ -14,10 +14,11 @@ use Rattle.wa_types.proofs.TypingLemmas.{pruned_types}
 use Rattle.wa_model.specs.declared.flat.Operand.{Operand}
 use Rattle.wa_model.specs.declared.flat.Operand.TheVariants.{Local, Const}
 use Rattle.wa_model.specs.Store.{takes, gives}
-use Rattle.wa_model.specs.Flat.{Stmts, no_more, computes, copies, calls, leaps, leaps_if, leaps_by, decides, followed_by, got, all_got, set_to, slots_got, last_of, code_of, result_got, body_of}
+use Rattle.run_theory.specs.Flat.{Stmts, no_more, computes, copies, calls, leaps, leaps_if, leaps_by, decides, followed_by, got, all_got, set_to, slots_got, last_of, code_of, result_got, body_of}
 use Rattle.flat_laws.specs.Flatten.{Names, names, slot, slots, result_local, top, top_of, carry_to, carry, carry_all, arrive, flat, flat_plain, result_of, flattened}
 use Rattle.flat_laws.specs.FlatModule.{stacks_in}
-use Rattle.flat_laws.proofs.OperandTypes.{takes_few, after_all, takes_after, passes, take_few}
+use Rattle.wa_types.proofs.PointLemmas.{takes_after, passes}
+use Rattle.flat_laws.proofs.OperandTypes.{takes_few, after_all, take_few}
 use Rattle.flat_laws.proofs.ValidModules.{flat_pruned}
 
 module _ (m : Module) where

@@ -6,7 +6,7 @@ use Rattle.wa_types.specs.declared.values.ValType.{ValType}
 use Rattle.wa_types.specs.declared.values.ValType.TheVariants.{I32}
 use Rattle.wa_types.specs.declared.rules.Rule.TheVariants.{UnknownLabel, StackTypes}
 use Rattle.wa_types.specs.Typing.{listed, jumps as jumps_sig, leaves as leaves_sig, lacks as lacks_sig, same_result, Takes, all_there, all_alike, agrees_with}
-use Rattle.wa_model.proofs.FittingNames.{same_true}
+use Rattle.run_theory.proofs.FittingNames.{same_true}
 
 result_true : (r r' : Option ValType) → same_result r r' ≡ true → r ≡ r'
 result_true None None e = refl

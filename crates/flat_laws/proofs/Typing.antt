@@ -11,7 +11,7 @@ use Rattle.wa_types.specs.declared.values.ValType.TheVariants.{I32}
 use Rattle.wa_types.specs.Encoding.{same_type}
 use Rattle.wa_types.specs.Accesses.{AccessRow, load_row, store_row}
 use Rattle.wa_types.specs.declared.rules.Rule.TheVariants.{UnknownLabel, StackTypes, Alignment, ConstantGlobal}
-use Rattle.wa_types.specs.Syntax.{Basic, nop, drop as a_drop, select, const, num, global_get, global_set, load, store, memory_size, memory_grow, Plain, basic, local_get, local_set}
+use Rattle.wa_types.specs.Syntax.{Basic, nop, drop as a_drop, select, const, num, global_get, global_set, load, store, memory_size, memory_grow, memory_copy, memory_fill, Plain, basic, local_get, local_set}
 use Rattle.wa_types.specs.Syntax.{local_tee, br, br_if, br_table, return, unreachable, call, call_indirect, a_block, a_loop, Code, done, plain, nest, branch, Func, Module, FuncType}
 use Rattle.wa_types.specs.Pruned.{is_last}
 use Rattle.wa_types.specs.Typing.{Around, GlobalType, listed, sig, basic_sig, Types, Typed, Takes, Sig, moves, leaves, drops, selects, lacks, late as late_sig, jump as jump_sig, may_jump}
@@ -21,12 +21,12 @@ use Rattle.wa_types.specs.Modules.{or_empty, func_type_at, type_at, locals_of, a
 use Rattle.wa_types.specs.Frames.{Pair, same_pair, SlotPairs, ResultPairs}
 use Rattle.wa_model.specs.declared.flat.Operand.TheVariants.{Local}
 use Rattle.wa_model.specs.Store.{takes, gives}
-use Rattle.wa_model.specs.Flat.{Stmts, no_more, copies, calls, leaps, leaps_if, leaps_by, decides, halts, followed_by, all_got, set_to, code_of, result_got, body_of}
-use Rattle.wa_model.proofs.FittingNames.{same_true}
+use Rattle.run_theory.specs.Flat.{Stmts, no_more, copies, calls, leaps, leaps_if, leaps_by, decides, halts, followed_by, all_got, set_to, code_of, result_got, body_of}
+use Rattle.run_theory.proofs.FittingNames.{same_true}
 use Rattle.flat_laws.specs.Flatten.{Names, names, past, place, slot, slots, result_local, top, top_of, carry_to, carry, carry_all, arrive, flat, flat_plain, result_of, flattened}
 use Rattle.flat_laws.specs.Placed.{AllIn, HasResult, GoesOn, Good}
 use Rattle.flat_laws.specs.FlatModule.{extra_types}
-use Rattle.wa_model.specs.FlatTyped.{StmtsTyped}
+use Rattle.run_theory.specs.FlatTyped.{StmtsTyped}
 use Rattle.flat_laws.proofs.OperandTypes.{after_all, good_in}
 use Rattle.flat_laws.proofs.GotLemmas.{all_got_on, args_got}
 use Rattle.flat_laws.proofs.TableLabels.{AllLabels, table_typed}
@@ -96,6 +96,8 @@ sized c (load op align offset) = sized_load c.memory align (load_row op)
 sized c (store op align offset) = sized_store c.memory align (store_row op)
 sized c memory_size = sized_memory c.memory [] (I32 ∷ [])
 sized c memory_grow = sized_memory c.memory (I32 ∷ []) (I32 ∷ [])
+sized c memory_copy = sized_memory c.memory (I32 ∷ I32 ∷ I32 ∷ []) []
+sized c memory_fill = sized_memory c.memory (I32 ∷ I32 ∷ I32 ∷ []) []
 
 -- what an instruction asks for, without what lies below
 pub record Exactly (g : Sig) (k l : ℕ) (own mids : List ValType) : Type 0 where

@@ -19,8 +19,8 @@ use Rattle.wa_types.specs.Modules.{func_type_at, type_at, defined_at, around}
 use Rattle.wa_types.specs.Frames.{Pair, same_pair, pair_of, shape_pair, results_in, all_results, SlotPairs, ResultPairs}
 use Rattle.wa_types.proofs.TypingLemmas.{pruned_types}
 use Rattle.wa_types.proofs.SlotLemmas.{pairs_are_slots, pass_pairs}
-use Rattle.wa_model.proofs.FittingNames.{type_small, func_type_small, defined_type}
-use Rattle.wa_model.proofs.FittingSteps.{body_typed}
+use Rattle.run_theory.proofs.FittingNames.{type_small, func_type_small, defined_type}
+use Rattle.run_theory.proofs.FittingSteps.{body_typed}
 use Rattle.flat_laws.specs.Flatten.{Names, names, past, place, flat, flat_plain}
 use Rattle.flat_laws.specs.Placed.{AllIn, HasResult, GoesOn, Good}
 

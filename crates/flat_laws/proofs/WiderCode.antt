@@ -8,11 +8,12 @@ use Rattle.wa_types.specs.Pruned.{is_last}
 use Rattle.wa_types.specs.Typing.{Around, listed, sig, Takes, label, Types}
 use Rattle.wa_types.specs.Points.{after, unless_last, points}
 use Rattle.wa_types.specs.Modules.{or_empty}
-use Rattle.wa_model.specs.Flat.{Stmts, calls, nests, decides}
+use Rattle.run_theory.specs.Flat.{Stmts, calls, nests, decides}
 use Rattle.wa_model.specs.declared.flat.Operand.TheVariants.{Local}
-use Rattle.wa_model.proofs.WiderTyping.{Wider, takes_wider}
+use Rattle.run_theory.proofs.WiderTyping.{Wider, takes_wider}
 use Rattle.flat_laws.specs.Flatten.{Names, slots, top, top_of, arrive, flat, flat_plain}
-use Rattle.flat_laws.proofs.OperandTypes.{after_all, takes_after, passes}
+use Rattle.wa_types.proofs.PointLemmas.{takes_after, passes}
+use Rattle.flat_laws.proofs.OperandTypes.{after_all}
 
 module _ (c d : Around) (w : Wider c d) where
   -- ---- points

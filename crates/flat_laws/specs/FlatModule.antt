@@ -14,9 +14,9 @@ use Rattle.wa_types.specs.Bounds.{code_weight}
 use Rattle.wa_types.specs.Counts.{depth_of}
 use Rattle.wa_types.specs.Points.{func_call_points}
 use Rattle.wa_model.specs.Step.{memory_max}
-use Rattle.wa_model.specs.Flat.{Stmts, FlatFunc, FlatModule, code_of, body_of, no_more, computes, copies, calls, leaps, leaps_if, leaps_by, nests, decides, halts}
-use Rattle.wa_model.specs.FlatFits.{func_of_flat, with_flat}
-use Rattle.wa_model.specs.FlatTyped.{StmtsTyped}
+use Rattle.run_theory.specs.Flat.{Stmts, FlatFunc, FlatModule, code_of, body_of, no_more, computes, copies, calls, leaps, leaps_if, leaps_by, nests, decides, halts}
+use Rattle.run_theory.specs.FlatFits.{func_of_flat, with_flat}
+use Rattle.run_theory.specs.FlatTyped.{StmtsTyped}
 use Rattle.flat_laws.specs.Flatten.{Names, names, slots, flat, flattened}
 
 -- the types of a function's slots and result locals, in order

@@ -1,6 +1,5 @@
 -- Functions of valid modules, flattened.
-use Rattle.std.proofs.Common.{◌≡◌, ℕ, ◌++◌, List, [], ◌∷◌, map, length, Option, None, Some, slice_get, refl, ap, sym, ◌∙◌, subst, get_or, nat_lt, if◌then◌else◌, Bool, true, false, replicate}
-use Rattle.std.proofs.Common.{length-append, ◌<◌, ◌≤◌, ◌-◌, ◌+◌, ◌^◌, zero, suc, arith}
+use Rattle.std.proofs.Common.{◌≡◌, ℕ, ◌++◌, List, [], ◌∷◌, map, length, Option, None, Some, slice_get, refl, ap, sym, ◌∙◌, subst, get_or, nat_lt, if◌then◌else◌, Bool, true, false, replicate, length-append, ◌<◌, ◌≤◌, ◌-◌, ◌+◌, ◌^◌, zero, suc, arith}
 use Rattle.std.specs.Option.{option_map}
 use Rattle.std.specs.List.{sum_by}
 use Rattle.std.proofs.lemmas.List.Sums.{sum_by-cons}
@@ -16,16 +15,16 @@ use Rattle.wa_types.specs.View.{code, func_of, func_type_of, module_of}
 use Rattle.wa_types.specs.Validity.{Valid as IsValid}
 use Rattle.wa_types.specs.Sizes.{code_items, params_of_type, FuncSizes, SizeRule, StrictSizeRule}
 use Rattle.wa_types.specs.Modules.{around, locals_of, declared_locals, defined_at, func_imports, func_sorts, func_types, or_empty, type_at}
-use Rattle.wa_model.proofs.FittingNames.{type_small, func_type_small}
+use Rattle.run_theory.proofs.FittingNames.{type_small, func_type_small}
 use Rattle.wasm_validate.specs.Walk.{outset, TypedAt, Walk}
-use Rattle.wasm_validate.proofs.ContextLemmas.{sort_there}
+use Rattle.validate_bodies.proofs.ContextLemmas.{sort_there}
 use Rattle.wasm_validate.proofs.FuncLemmas.{func_at, number_fits}
 use Rattle.wasm_validate.proofs.WalkUses.{outset_typed}
-use Rattle.flat_survey.specs.Emitting.{SmallTypes, result_at, flat_at}
+use Rattle.flatten.specs.Emitting.{SmallTypes, result_at, flat_at}
 use Rattle.wa_types.specs.declared.values.ValType.{ValType}
 use Rattle.flat_laws.specs.Flatten.{Names, names, flattened, result_of}
-use Rattle.wa_model.specs.Flat.{FlatFunc, Stmts}
-use Rattle.flat_survey.specs.Surveying.{names_at}
+use Rattle.run_theory.specs.Flat.{FlatFunc, Stmts}
+use Rattle.flatten.specs.Surveying.{names_at}
 use Rattle.wa_types.specs.Frames.{Pair, Count}
 
 -- ---- a function of a valid module
@@ -38,7 +37,7 @@ below_each f (t ∷ ts) (suc x) none each = below_each f ts x none (λ i d lt. e
 few_params : (m : Module) (x : ℕ) → StrictSizeRule m → length (type_at m x).params < 2 ^ 31
 few_params m x s = below_each (λ (t : FuncType). length t.params < 2 ^ 31) m.types x (omega arith) (λ i d lt. (s.each_type i d lt).params)
 
-pub small_types : (m : Module) (f : Func) → IsValid m → StrictSizeRule m → SmallTypes (around m f)
+small_types : (m : Module) (f : Func) → IsValid m → StrictSizeRule m → SmallTypes (around m f)
 small_types m f v s = record {
   funcs = λ x. record { params = at_sort x (slice_get (func_sorts m) x) (slice_get-map (type_at m) (func_sorts m) x); results = func_type_small m v x };
   sorts = λ x. record { params = few_params m x s; results = type_small m v x };
@@ -60,16 +59,16 @@ params_at (t ∷ ts) zero = refl
 params_at (t ∷ ts) (suc x) = params_at ts x
 
 module _ (v : ModuleValue) (i : ℕ) (f : FuncValue) (lt : i < length v.funcs.items) (at : f ≡ get_or v.funcs.items i f) (valid : IsValid (module_of v)) where
-  pub func_there : slice_get (module_of v).funcs i ≡ Some (func_of f)
+  func_there : slice_get (module_of v).funcs i ≡ Some (func_of f)
   func_there = func_at v.funcs.items i f lt at
 
   pub sort_below : f.sort < length v.types.items
   sort_below = sort_there v i f valid.sorts lt at
 
-  pub begins_typed : TypedAt (outset (around (module_of v) (func_of f))) (code f.body.items)
+  begins_typed : TypedAt (outset (around (module_of v) (func_of f))) (code f.body.items)
   begins_typed = outset_typed (module_of v) i (func_of f) valid func_there
 
-  pub defined : defined_at (module_of v) (func_imports (module_of v) + i) ≡ Some (func_of f)
+  defined : defined_at (module_of v) (func_imports (module_of v) + i) ≡ Some (func_of f)
   defined = by (nat_lt (func_imports (module_of v) + i) (func_imports (module_of v))) refl
     where
       by : (b : Bool) → nat_lt (func_imports (module_of v) + i) (func_imports (module_of v)) ≡ b
@@ -77,22 +76,52 @@ module _ (v : ModuleValue) (i : ℕ) (f : FuncValue) (lt : i < length v.funcs.it
       by true e = let z = ltb-true (func_imports (module_of v) + i) (func_imports (module_of v)) e in absurd (omega (arith, z))
       by false e = let same : func_imports (module_of v) + i - func_imports (module_of v) ≡ i = omega arith in ap (slice_get (module_of v).funcs) same ∙ func_at v.funcs.items i f lt at
 
-  pub number_few : SizeRule (module_of v) → func_imports (module_of v) + i < 2 ^ 32
+  number_few : SizeRule (module_of v) → func_imports (module_of v) + i < 2 ^ 32
   number_few wide = number_fits (module_of v) i wide (omega (arith, lt, length-map v.funcs.items func_of))
 
   module _ (t : FuncTypeValue) (ta : t ≡ get_or v.types.items f.sort t) where
-    pub type_is : type_at (module_of v) f.sort ≡ func_type_of t
+    type_is : type_at (module_of v) f.sort ≡ func_type_of t
     type_is = ap or_empty (slice_get-map func_type_of v.types.items f.sort ∙ ap (option_map func_type_of) (slice_get-get_or v.types.items f.sort t sort_below ∙ ap (λ z. Some z) (sym ta)))
 
-    pub result_is : (around (module_of v) (func_of f)).result ≡ slice_get t.results.items 0
+    result_is : (around (module_of v) (func_of f)).result ≡ slice_get t.results.items 0
     result_is = ap (λ (z : FuncType). slice_get z.results 0) type_is
 
-    pub all_few : StrictSizeRule (module_of v) → length t.params.items + length (declared_locals f.locals.items) + code_items (code f.body.items) + 1 < 2 ^ 31
+    all_few : StrictSizeRule (module_of v) → length t.params.items + length (declared_locals f.locals.items) + code_items (code f.body.items) + 1 < 2 ^ 31
     all_few sizes =
         let s = sizes.each_func i (func_of f) (omega (arith, lt, length-map v.funcs.items func_of)) in
         let same : get_or (module_of v).funcs i (func_of f) ≡ func_of f = get_or-map func_of v.funcs.items i f (func_of f) lt ∙ ap func_of (sym at) in
         let s2 = subst (FuncSizes (2 ^ 31) (2 ^ 31) (module_of v)) same s in
         omega (arith, s2.total, locals_count f.locals.items, params_at (module_of v).types f.sort, ap (λ (z : FuncType). length z.params) type_is)
+
+-- What is known of the function at hand, with its type.
+pub record AtHand (m : Module) (x : ℕ) (f : FuncValue) (t : FuncTypeValue) (i : ℕ) : Type 0 where
+  pub there : slice_get m.funcs i ≡ Some (func_of f)
+  pub defined : defined_at m x ≡ Some (func_of f)
+  pub begins : TypedAt (outset (around m (func_of f))) (code f.body.items)
+  pub small : SmallTypes (around m (func_of f))
+  pub type_is : type_at m f.sort ≡ func_type_of t
+  pub result_is : (around m (func_of f)).result ≡ slice_get t.results.items 0
+  pub few : length t.params.items + length (declared_locals f.locals.items) + code_items (code f.body.items) + 1 < 2 ^ 31
+  pub number : x < 2 ^ 32
+
+-- it and its type were read off a module, which is this one
+pub at_hand : {v m : ModuleValue} {i imports : ℕ} {f : FuncValue} {t : FuncTypeValue} → m ≡ v → IsValid (module_of m) → SizeRule (module_of m) → StrictSizeRule (module_of v)
+    → imports ≡ func_imports (module_of v) → i < length v.funcs.items → f ≡ get_or m.funcs.items i f → t ≡ get_or m.types.items f.sort t → AtHand (module_of v) (imports + i) f t i
+at_hand {v} {m} {i} {imports} {f} {t} same is_valid is_wide sizes first lt f_is t_is =
+    let valid : IsValid (module_of v) = subst (λ (z : ModuleValue). IsValid (module_of z)) same is_valid in
+    let wide : SizeRule (module_of v) = subst (λ (z : ModuleValue). SizeRule (module_of z)) same is_wide in
+    let at : f ≡ get_or v.funcs.items i f = f_is ∙ ap (λ (z : ModuleValue). get_or z.funcs.items i f) same in
+    let ta : t ≡ get_or v.types.items f.sort t = t_is ∙ ap (λ (z : ModuleValue). get_or z.types.items f.sort t) same in
+    record {
+      there = func_there v i f lt at valid;
+      defined = ap (λ k. defined_at (module_of v) (k + i)) first ∙ defined v i f lt at valid;
+      begins = begins_typed v i f lt at valid;
+      small = small_types (module_of v) (func_of f) valid sizes;
+      type_is = type_is v i f lt at valid t ta;
+      result_is = result_is v i f lt at valid t ta;
+      few = all_few v i f lt at valid t ta sizes;
+      number = subst (λ k. k + i < 2 ^ 32) (sym first) (number_few v i f lt at valid wide);
+    }
 
 -- ---- what is answered of a function
 

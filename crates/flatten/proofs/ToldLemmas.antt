@@ -5,7 +5,7 @@ use Rattle.std.proofs.lemmas.List.{append-nil, append_assoc, drop_all, get_or_de
 use Rattle.std.proofs.lemmas.Option.{slice_get-get_or}
 use Rattle.wa_types.specs.Syntax.{Func, Module}
 use Rattle.wa_types.specs.Frames.{Count}
-use Rattle.wa_model.specs.Flat.{FlatFunc}
+use Rattle.run_theory.specs.Flat.{FlatFunc}
 use Rattle.flat_laws.specs.Flatten.{flattened}
 use Rattle.flat_laws.specs.FlatModule.{flat_told}
 use Rattle.flatten.specs.Whole.{NonePasses, FirstPasses, FlatAnswer, Flattens}

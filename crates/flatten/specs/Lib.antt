@@ -1,1 +1,4 @@
+pub mod Emitting
+pub mod Numbers
+pub mod Surveying
 pub mod Whole

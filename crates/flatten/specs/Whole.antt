@@ -3,7 +3,7 @@ use Rattle.std.specs.Prelude.{◌≡◌, ◌⊎◌, ℕ, suc, ◌+◌, length, �
 use Rattle.wa_types.specs.Syntax.{Func, Module}
 use Rattle.wa_types.specs.Frames.{Count, SlotPairs}
 use Rattle.wa_types.specs.Modules.{func_imports, locals_of}
-use Rattle.wa_model.specs.FlatView.{flat_func_of, flat_module_of}
+use Rattle.run_theory.specs.FlatView.{flat_func_of, flat_module_of}
 use Rattle.wa_model.specs.declared.flat.FlatModule.{FlatModule as FlatModuleValue}
 use Rattle.flat_laws.specs.Flatten.{flattened}
 use Rattle.flat_laws.specs.FlatModule.{flats_of}

@@ -1,16 +1,18 @@
 //! The flat function of a defined function, and those of a whole module.
 
 ghost use Rattle.std.specs.Prelude.{◌≡◌, ◌+◌, ◌<◌, ◌∷◌, ◌++◌, [], length, map, slice_get, Some, OnOk};
-ghost use Rattle.wa_model.specs.FlatView.{flat_func_of};
+ghost use Rattle.run_theory.specs.FlatView.{flat_func_of};
 ghost use Rattle.wa_types.specs.Modules.{func_imports};
 ghost use Rattle.wa_types.specs.Sizes.{StrictSizeRule};
 ghost use Rattle.wa_types.specs.Syntax.{Func as PlainFunc};
 ghost use Rattle.wa_types.specs.View.{module_of};
 ghost use Rattle.flatten.specs.Whole.{FlatAnswer, Flattens};
 
+use crate::constructs::label_local;
 use crate::fault::FlatFault;
-use flat_names::{all_locals, count_runs};
-use flat_survey::{find_names, flat_body, label_local};
+use crate::find::find_names;
+use crate::locals::{all_locals, count_runs};
+use crate::start::flat_body;
 use std::alloc::{AllocError, Global};
 use wa_model::{FlatFunc, FlatModule};
 use wa_types::{FuncType, ValType};

@@ -1,45 +1,33 @@
--- A whole function.
-use Rattle.std.proofs.Common.{◌≡◌, ◌<◌, ◌^◌, List, [], length, Bool, true, false, refl, sym, ap, ◌∙◌, subst, arith}
-use Rattle.std.specs.Prelude.{if◌then◌else◌}
+-- Pieces under tests of the state: an empty one has none, and each other one has.
+use Rattle.std.proofs.Common.{◌≡◌, ℕ, ◌<◌, ◌≤◌, ◌∷◌, List, [], length, Bool, true, false, sym, ap, ◌∙◌, refl, arith}
+use Rattle.std.specs.Prelude.{nat_eq}
 use Rattle.wa_types.specs.declared.instrs.Instr.{Instr}
 use Rattle.wa_types.specs.Syntax.{Code, done}
-use Rattle.wa_types.specs.View.{onto, code}
-use Rattle.wa_types.proofs.ViewLemmas.{onto_done, onto_none}
-use Rattle.wa_model.specs.Flat.{FlatFunc}
-use Rattle.wa_model.specs.FlatFits.{StmtsFit, FlatFits}
-use Rattle.guard_form.specs.Pieces.{call_total, first_piece, units}
-use Rattle.guard_form.specs.Guarded.{each_end, GuardIndices, guarded, guarded_code, front}
-use Rattle.flow_calls.specs.declared.guards.Guards.{Guards}
-use Rattle.flow_calls.specs.declared.sequence.Part.{Part}
-use Rattle.flat_pieces.specs.Raising.{Raisable}
-use Rattle.flat_pieces.specs.Putting.{Puts}
-use Rattle.flow_calls.specs.Emitting.{Rises, indices, IsPart, Ready}
-use Rattle.flat_pieces.proofs.StmtLemmas.{if_true, if_false}
-use Rattle.flow_constructs.proofs.ConstructSteps.{part_held, part_plain, part_none, first_is}
-use Rattle.flat_pieces.proofs.FitLemmas.{whole_raisable}
+use Rattle.wa_types.specs.View.{in_front, onto, code}
+use Rattle.wa_types.proofs.ViewLemmas.{is_block, is_loop, is_if, is_plain, instr_kind, in_block, in_loop, in_if}
+use Rattle.guard_form.specs.Guarded.{GuardIndices, by_state, raised, guarded}
 
-pub func_ready : (g : Guards) (f : FlatFunc) → g.index ≡ length f.locals → Rises g.numbers.items → FlatFits f → call_total f.body < 2 ^ 32 → Ready g 0 0 0 f.body
-func_ready g f e rises fits room =
-    let sh = fits.shallow in
-    record { rises = rises; fits = record { fit = subst (λ n. StmtsFit n 1 f.body) (sym e) fits.statements; shallow = omega arith }; few = omega arith; room = omega arith }
+pub length_none : (n : ℕ) (b : Bool) → b ≡ nat_eq n 0 → b ≡ true → n ≤ 0
+length_none n b e t = grind arith
 
-pub whole_is : (g : Guards) (f : FlatFunc) (p : Part) (body : Code) → g.one_call ≡ false → g.index ≡ length f.locals → IsPart (indices g) g.numbers.items 0 0 0 f.body p
-    → body ≡ (if p.held then code p.code.items else guarded (indices g) (code p.code.items) done) → body ≡ guarded_code g.state g.numbers.items f
-whole_is g f p body noted e part is =
-    is ∙ by p.held refl
-    ∙ (λ j. front (record { state = g.state; index = e j; one_call = noted j }) each_end 0 0 (first_piece g.numbers.items 0 f.body) (units g.numbers.items 0 f.body))
-  where
-    by : (b : Bool) → p.held ≡ b → (if p.held then code p.code.items else guarded (indices g) (code p.code.items) done) ≡ front (indices g) each_end 0 0 (first_piece g.numbers.items 0 f.body)
-        (units g.numbers.items 0 f.body)
-    by true h = if_true p.held _ _ h ∙ part_held (indices g) g.numbers.items 0 0 0 f.body p part h
-    by false h =
-        if_false p.held _ _ h ∙ ap (λ c. guarded (indices g) c done) (part_plain (indices g) g.numbers.items 0 0 0 f.body p part h ∙ sym (first_is g.numbers.items 0 f.body (sym part.held ∙ h)))
-        ∙ sym (ap (front (indices g) each_end 0 0 (first_piece g.numbers.items 0 f.body)) (part_none (indices g) g.numbers.items 0 0 0 f.body p part h))
+pub length_some : (n : ℕ) (b : Bool) → b ≡ nat_eq n 0 → b ≡ false → 0 < n
+length_some n b e t = grind arith
 
-pub part_raisable : (g : Guards) (f : FlatFunc) (p : Part) → IsPart (indices g) g.numbers.items 0 0 0 f.body p → Ready g 0 0 0 f.body → p.held ≡ false
-    → Raisable 0 1 (code p.code.items)
-part_raisable g f p part rd h = subst (Raisable 0 1) (sym (part_plain (indices g) g.numbers.items 0 0 0 f.body p part h))
-    (let r = whole_raisable g.index 0 f.body rd.fits in record { few = omega arith; labels = r.labels; shallow = r.shallow })
+-- an empty piece has no guard, and each other one has
+pub guarded_none : (i : GuardIndices) (xs : List Instr) (next : Code) → length xs ≤ 0 → guarded i (code xs) next ≡ next
+unfolding code onto
+guarded_none i [] next le = refl
+guarded_none i (x ∷ xs) next le = absurd (omega arith)
 
-pub alone_is : (i : GuardIndices) (old new xs ys : List Instr) → old ≡ [] → Puts old new (guarded i (code xs)) → xs ≡ ys → code new ≡ guarded i (code ys) done
-alone_is i old new xs ys e puts q = sym (onto_done new) ∙ puts done ∙ ap (λ z. onto z (guarded i (code xs) done)) e ∙ onto_none (guarded i (code xs) done) ∙ ap (λ z. guarded i (code z) done) q
+guarded_front : (i : GuardIndices) (x : Instr) (rest next : Code) → guarded i (in_front x rest) next ≡ by_state i.state done (raised 0 1 (in_front x rest)) next
+guarded_front i x rest next = elim (instr_kind x) [
+  | is_block r v e ↦ let q = ap (λ y. in_front y rest) e ∙ in_block r v rest in ap (λ c. guarded i c next) q ∙ ap (λ c. by_state i.state done (raised 0 1 c) next) (sym q)
+  | is_loop r v e ↦ let q = ap (λ y. in_front y rest) e ∙ in_loop r v rest in ap (λ c. guarded i c next) q ∙ ap (λ c. by_state i.state done (raised 0 1 c) next) (sym q)
+  | is_if r v w e ↦ let q = ap (λ y. in_front y rest) e ∙ in_if r v w rest in ap (λ c. guarded i c next) q ∙ ap (λ c. by_state i.state done (raised 0 1 c) next) (sym q)
+  | is_plain p e ↦ ap (λ c. guarded i c next) (e rest) ∙ ap (λ c. by_state i.state done (raised 0 1 c) next) (sym (e rest))
+]
+
+pub guarded_some : (i : GuardIndices) (xs : List Instr) (next : Code) → 0 < length xs → guarded i (code xs) next ≡ by_state i.state done (raised 0 1 (code xs)) next
+unfolding code onto
+guarded_some i [] next lt = absurd (omega arith)
+guarded_some i (x ∷ xs) next lt = guarded_front i x (code xs) next

@@ -1,4 +1,14 @@
-pub use Rattle.call_numbers.proofs.NumberingLemmas
-mod WalkSteps
+pub mod CallIsNumbered
+mod ExitLemmas
+pub mod FitLemmas
+pub mod FlatNumbers
 mod GuardLemmas
 pub mod NumberLemmas
+pub mod NumberingLemmas
+mod PieceLemmas
+pub mod PutLemmas
+pub mod RaiseLemmas
+pub mod StmtLemmas
+pub mod StmtWeights
+pub mod UnitLemmas
+mod WrittenUnits

@@ -1,2 +1,2 @@
 -- Numbered calls are found by their places.
-pub use Rattle.flow_calls.proofs.NumberLemmas.{place_found}
+pub use Rattle.flow_rewrite.proofs.CallIsNumbered.{place_found}

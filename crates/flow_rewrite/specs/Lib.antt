@@ -1,2 +1,8 @@
-pub use Rattle.call_numbers.specs.Numbering
 pub mod Emitting
+pub mod Exits
+pub mod Fronts
+pub mod Numbering
+pub mod Putting
+pub mod Raising
+pub mod Statements
+pub mod UnitView

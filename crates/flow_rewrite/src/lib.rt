@@ -1,13 +1,37 @@
-//! Guards: the body of a flat function with a test of the state before each piece without numbered calls.
+//! Guards: writes the body of a flat function with a test of the state before each piece without numbered calls.
 //!
-//! The form and its laws stand in `guard_form` and `guard_runs`; this crate writes it, exactly. It goes over the
-//! statements once: a piece is gathered with its labels as they are, and put under its test, or behind its
-//! call, once it is known what comes next. So each instruction is copied once more, and the time is linear.
-//! Sequences and calls are written in `flow_calls`, blocks, loops and ifs in `flow_constructs`.
+//! The form and its laws stand in `guard_form`; here it is written, exactly, in time linear in the function. `guarded_pieces` writes
+//! it from a function that stands in pieces and units, as `slim_rewrite` makes them. `specs/UnitView.antt` says which units of
+//! `guard_form` these are. It goes over the units of a sequence once, each beside the piece in front of it.
+//!
+//! Contracts are of one form (`specs/Putting.antt`): with whatever behind it, the new list stands for the old one with this code behind
+//! it; so what calls put in a row composes. No frame is written here, and no statement is left out.
+//!
+//! - `laws`, `numbering`: which calls of a flat function get a number, the places of those at which it may pause.
+//! - `labels`, `put`, `guards`: labels raised, single instructions, and the guard of a piece.
+//! - `pieces`, `counts`, `exits`: a function in pieces and units, whether it has one numbered call alone, and where runs go that have
+//!   passed a sequence's calls.
+//! - `calls`, `conditions`, `sequences`: numbered calls, conditions of ifs, where the arm is picked by the saved index of the call while
+//!   the stack is rewound, and `guarded_pieces`, in which each body is written where it is handed in.
 #![tactic(auto)]
 
-mod function;
-mod write;
+mod calls;
+mod conditions;
+mod counts;
+mod exits;
+mod guards;
+mod labels;
+mod laws;
+mod numbering;
+mod pieces;
+mod put;
+mod sequences;
 
-pub use call_numbers::number_calls;
-pub use function::{GuardedFunc, guard};
+pub use counts::has_one_call;
+pub use exits::ExitTo;
+pub use guards::Guards;
+pub use laws::flat_numbers;
+pub use numbering::number_calls;
+pub use pieces::{Pieces, Target, Unit};
+pub use put::{put_copy, put_operand, put_operands, put_slots, put_to};
+pub use sequences::guarded_pieces;

@@ -1,6 +1,5 @@
 -- Frames and places, as lists that are given as slices.
-use Rattle.std.proofs.Common.{arith, ◌≡◌, ℕ, zero, suc, ◌+◌, ◌-◌, ◌*◌, ◌^◌, ◌<◌, ◌≤◌, List, [], ◌∷◌, ◌++◌, map, Option, Some, None, Bool, true, false, refl, ap, sym, ◌∙◌, length, take, drop}
-use Rattle.std.proofs.Common.{get_or, slice_get, append_assoc, nat_lt, reverse, drop-cons}
+use Rattle.std.proofs.Common.{arith, ◌≡◌, ℕ, zero, suc, ◌+◌, ◌-◌, ◌*◌, ◌^◌, ◌<◌, ◌≤◌, List, [], ◌∷◌, ◌++◌, map, Option, Some, None, Bool, true, false, refl, ap, sym, ◌∙◌, length, take, drop, get_or, slice_get, append_assoc, nat_lt, reverse, drop-cons}
 use Rattle.std.specs.Prelude.{Vec}
 use Rattle.std.specs.declared.alloc.Global.{Global}
 use Rattle.std.proofs.lemmas.Bool.{lt-ltb, le-ltb}
@@ -17,14 +16,14 @@ use Rattle.wa_types.specs.Modules.{locals_of, func_imports, defined_at}
 use Rattle.wa_types.specs.Points.{func_call_points}
 use Rattle.wa_types.specs.Liveness.{live_at, live_from, behind_calls, is_live_after, Position}
 use Rattle.wa_types.specs.Frames.{Pair, Place, SlotPairs, is_on_stack, place_onto, named_places, slot_places, width, Saved, Room, frame_of, size_of_found}
-use Rattle.point_visits.specs.declared.slot_pairs.Pair.{Pair as PairValue}
+use Rattle.frame_sizes.specs.declared.slot_pairs.Pair.{Pair as PairValue}
 use Rattle.frame_sizes.specs.declared.frames.Place.{Place as PlaceValue}
 use Rattle.frame_sizes.specs.declared.frames.Suspended.{Suspended as SuspendedValue}
-use Rattle.live_behind.specs.Lives.{lives}
-use Rattle.point_visits.specs.Points.{lists_of}
-use Rattle.point_visits.specs.Slots.{pair_of, pairs_of}
+use Rattle.frame_sizes.specs.Lives.{lives}
+use Rattle.frame_sizes.specs.Points.{lists_of}
+use Rattle.frame_sizes.specs.Slots.{pair_of, pairs_of}
 use Rattle.frame_sizes.specs.Frames.{place_of, places_of, suspended_of, keep_local, keep_slot}
-use Rattle.live_behind.proofs.LiveLemmas.{told_calls}
+use Rattle.frame_sizes.proofs.LiveLemmas.{told_calls}
 
 -- ---- places
 

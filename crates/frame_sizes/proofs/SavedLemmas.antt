@@ -15,7 +15,7 @@ use Rattle.wa_types.specs.Points.{func_points, func_call_points}
 use Rattle.wa_types.specs.Frames.{Pair, Place, SlotPairs, Saved, greatest, pairs_from, stands_at, named_places, slot_places}
 use Rattle.wa_types.proofs.TypingLemmas.{pruned_types}
 use Rattle.wasm_validate.specs.Walk.{Walk, outset, TypedAt}
-use Rattle.point_visits.specs.Points.{points_at, calls_at}
+use Rattle.frame_sizes.specs.Points.{points_at, calls_at}
 use Rattle.frame_sizes.specs.Frames.{keep_local, keep_slot}
 use Rattle.frame_sizes.proofs.FrameLemmas.{saved_is}
 

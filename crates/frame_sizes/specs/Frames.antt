@@ -4,7 +4,7 @@ use Rattle.wa_types.specs.declared.values.ValType.{ValType}
 use Rattle.wa_types.specs.Syntax.{Code}
 use Rattle.wa_types.specs.Pausing.{Policy, save_all, save_live, is_told}
 use Rattle.wa_types.specs.Frames.{Pair, Place, Suspended, is_on_stack}
-use Rattle.live_behind.specs.Lives.{lives}
+use Rattle.frame_sizes.specs.Lives.{lives}
 use Rattle.frame_sizes.specs.declared.frames.Place.{Place as PlaceValue}
 use Rattle.frame_sizes.specs.declared.frames.Suspended.{Suspended as SuspendedValue}
 

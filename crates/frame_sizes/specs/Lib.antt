@@ -1,1 +1,4 @@
 pub mod Frames
+pub mod Lives
+pub mod Points
+pub mod Slots

@@ -8,16 +8,16 @@ ghost use Rattle.wa_types.specs.Syntax.{Func as PlainFunc};
 ghost use Rattle.wa_types.specs.View.{code, module_of};
 ghost use Rattle.call_graph.specs.Settings.{policy_of};
 ghost use Rattle.frame_sizes.specs.Frames.{keep_local, keep_slot, places_of, suspended_of};
-ghost use Rattle.point_visits.specs.Points.{lists_of};
-ghost use Rattle.point_visits.specs.Slots.{pair_of, pairs_of};
+ghost use Rattle.frame_sizes.specs.Points.{lists_of};
+ghost use Rattle.frame_sizes.specs.Slots.{pair_of, pairs_of};
 
+use crate::liveness::is_live_behind;
 use crate::locals::locals;
+use crate::points::{Visits, visit_body};
+use crate::slot_pairs::{Pair, slots, stands_in};
 use call_graph::Policy;
-use live_behind::is_live_behind;
-use point_visits::{Pair, Visits, slots, stands_in, visit_body};
 use std::alloc::{AllocError, Global};
-use wa_types::{ImportKind, Instr, Module, ValType};
-use wasm_tree::prune;
+use wa_types::{ImportKind, Instr, Module, ValType, prune};
 use wasm_validate::{Typing, Valid};
 
 /// A local that a frame saves.

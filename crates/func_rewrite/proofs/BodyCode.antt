@@ -10,8 +10,8 @@ use Rattle.wa_types.specs.View.{code, onto, in_front}
 use Rattle.wa_types.proofs.ViewLemmas.{in_block, onto_append, onto_done}
 use Rattle.wa_types.specs.declared.syntax.Run.{Run}
 use Rattle.wa_types.specs.declared.values.ValType.{ValType}
-use Rattle.wa_model.specs.Flat.{result_got}
-use Rattle.wa_model.specs.FlatFits.{one_run}
+use Rattle.run_theory.specs.Flat.{result_got}
+use Rattle.run_theory.specs.FlatFits.{one_run}
 use Rattle.local_spill.proofs.PutLemmas.{get_is}
 use Rattle.local_spill.specs.Putting.{Puts}
 use Rattle.func_rewrite.specs.Bodies.{body_got}

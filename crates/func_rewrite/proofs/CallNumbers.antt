@@ -6,15 +6,15 @@ use Rattle.wa_types.specs.Syntax.{basic, local_get, local_set, local_tee, br_if,
 use Rattle.wa_types.specs.Pausing.{Callee, direct, indirect, calls_of, calls_in, Listed, Settings, has_number, places_from, Numbered}
 use Rattle.wa_model.specs.declared.flat.Operand.{Operand}
 use Rattle.wa_model.specs.declared.flat.Operand.TheVariants.{Local, Const}
-use Rattle.wa_model.specs.Flat.{Stmts, no_more, computes, copies, calls, leaps, leaps_if, leaps_by, nests, decides, halts, followed_by, got, all_got, set_to, slots_got, last_of, code_of}
-use Rattle.wa_model.specs.FlatFits.{ComputesFit, IsCallCode, StmtsFit}
-use Rattle.wa_model.specs.Growth.{Each}
+use Rattle.run_theory.specs.Flat.{Stmts, no_more, computes, copies, calls, leaps, leaps_if, leaps_by, nests, decides, halts, followed_by, got, all_got, set_to, slots_got, last_of, code_of}
+use Rattle.run_theory.specs.FlatFits.{ComputesFit, IsCallCode, StmtsFit}
+use Rattle.run_theory.specs.Growth.{Each}
 use Rattle.flat_laws.specs.FlatModule.{stacks_in}
 use Rattle.guard_form.specs.Pieces.{sole_callee, call_total}
-use Rattle.written_frames.specs.Numbering.{callees, gets_number}
-use Rattle.written_frames.proofs.NumberingLemmas.{callees_count}
-use Rattle.written_frames.specs.Emitting.{Rises}
-use Rattle.written_frames.specs.Marking.{StacksFit}
+use Rattle.flow_rewrite.specs.Numbering.{callees, gets_number}
+use Rattle.flow_rewrite.proofs.NumberingLemmas.{callees_count}
+use Rattle.flow_rewrite.specs.Emitting.{Rises}
+use Rattle.func_rewrite.specs.Marking.{StacksFit}
 
 -- ---- calls of statements
 

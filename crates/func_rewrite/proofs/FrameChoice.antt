@@ -3,8 +3,7 @@ use Rattle.std.proofs.Common.{◌≡◌, ◌∙◌, ℕ, suc, ◌+◌, ◌<◌, 
 use Rattle.std.specs.Prelude.{if◌then◌else◌}
 use Rattle.std.proofs.lemmas.List.Elements.{All-nil, All-cons}
 use Rattle.wa_types.specs.declared.values.ValType.{ValType}
-use Rattle.wa_types.specs.Frames.{Pair, SlotPairs, width, named_places, slot_places, Saved}
-use Rattle.wa_types.specs.Frames.{Place as SavedLocal}
+use Rattle.wa_types.specs.Frames.{Pair, SlotPairs, width, named_places, slot_places, Saved, Place as SavedLocal}
 use Rattle.wa_types.specs.Modules.{locals_of}
 use Rattle.wa_types.specs.Pausing.{save_all}
 use Rattle.wa_types.specs.Syntax.{Func, Module}
@@ -14,8 +13,8 @@ use Rattle.local_spill.specs.declared.frames.Place.{Place}
 use Rattle.frame_laws.specs.Chosen.{fields_where}
 use Rattle.frame_laws.specs.Layout.{kept, gap, fields_size, placed}
 use Rattle.frame_laws.proofs.ChosenPlaces.{chosen_law}
-use Rattle.written_frames.specs.Emitted.{field_where}
-use Rattle.written_frames.specs.Frames.{numbered_places, IsFrame, FramesFrom}
+use Rattle.emitted_form.specs.Emitted.{field_where}
+use Rattle.func_rewrite.specs.WrittenFrames.{numbered_places, IsFrame, FramesFrom}
 use Rattle.func_rewrite.specs.Frames.{IsFrameOf, FramesAt}
 
 -- ---- saved locals

@@ -1,6 +1,10 @@
-pub use Rattle.flatten.proofs.ToldLemmas
-pub use Rattle.written_frames.proofs.EmittedBy
+pub mod BodyCode
+pub mod CallFacts
 pub mod CallNumbers
 pub mod FrameChoice
-pub mod BodyCode
+pub mod FrameLemmas
+pub mod LayoutSteps
+pub mod MarkLemmas
+pub mod PartsOwed
+pub mod SetFields
 pub mod WrittenFuncs

@@ -13,15 +13,15 @@ use Rattle.wa_types.specs.Runtime.{global_space}
 use Rattle.wa_types.specs.Sizes.{StrictSizeRule}
 use Rattle.wa_types.specs.Syntax.{Code, done, Func, Module}
 use Rattle.wa_types.specs.Validity.{Valid}
-use Rattle.wa_model.specs.Flat.{FlatFunc, code_of, result_got}
-use Rattle.wa_model.specs.FlatFits.{FlatFits, one_run}
-use Rattle.wa_model.specs.FlatView.{flat_func_of}
-use Rattle.flat_fits.proofs.Calls.{calls_stay}
-use Rattle.flat_fits.proofs.Whole.{meets, counted}
+use Rattle.run_theory.specs.Flat.{FlatFunc, code_of, result_got}
+use Rattle.run_theory.specs.FlatFits.{FlatFits, one_run}
+use Rattle.run_theory.specs.FlatView.{flat_func_of}
+use Rattle.flat_laws.proofs.Calls.{calls_stay}
+use Rattle.flat_laws.proofs.Whole.{meets, counted}
 use Rattle.flat_laws.specs.Flatten.{flattened}
 use Rattle.flat_laws.specs.FlatModule.{extra_types}
 use Rattle.flatten.specs.declared.whole.Flattened.{Flattened}
-use Rattle.asyncify_runtime.specs.Ids.{ids_behind}
+use Rattle.local_spill.specs.Ids.{ids_behind}
 use Rattle.local_spill.specs.Laying.{in_a_row, row_size, saved_local}
 use Rattle.local_spill.specs.Spilling.{SpillIndices, spill_indices, restoring, saving}
 use Rattle.local_spill.specs.declared.RuntimeIds.{RuntimeIds}
@@ -30,11 +30,11 @@ use Rattle.local_spill.specs.declared.frames.Place.{Place}
 use Rattle.frame_laws.specs.Layout.{FrameField, Layout as FrameLayout, fields_size, placed, spilled_by}
 use Rattle.guard_form.specs.Guarded.{guard_indices, guarded_body, function_body}
 use Rattle.guard_form.specs.Pieces.{call_total}
-use Rattle.written_frames.specs.Numbering.{callees, gets_number}
-use Rattle.written_frames.specs.Emitted.{IsAllWritten, holds_operand, is_kept, field_where, frame_layout, written_func}
-use Rattle.written_frames.specs.SlimModule.{Pieces, SlimPieces}
-use Rattle.written_frames.specs.Frames.{numbered_places, AllFrames}
-use Rattle.written_frames.specs.Marking.{StacksFit}
+use Rattle.flow_rewrite.specs.Numbering.{callees, gets_number}
+use Rattle.emitted_form.specs.Emitted.{IsAllWritten, holds_operand, is_kept, field_where, frame_layout, written_func}
+use Rattle.slim_laws.specs.SlimModule.{Pieces, SlimPieces}
+use Rattle.func_rewrite.specs.WrittenFrames.{numbered_places, AllFrames}
+use Rattle.func_rewrite.specs.Marking.{StacksFit}
 use Rattle.func_rewrite.specs.Bodies.{IsSlimBody}
 use Rattle.func_rewrite.specs.Frames.{IsFlattened, FramesUnder}
 use Rattle.func_rewrite.proofs.CallNumbers.{total_is, numbers_are, stacks_fit}

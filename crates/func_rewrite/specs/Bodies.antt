@@ -1,10 +1,10 @@
 -- The body of a written function.
 use Rattle.std.specs.Prelude.{◌≡◌, ℕ, List, Option, Some, None}
 use Rattle.wa_types.specs.Syntax.{local_get, Code, Func, Module, plain}
-use Rattle.wa_model.specs.Flat.{result_got}
+use Rattle.run_theory.specs.Flat.{result_got}
 use Rattle.guard_form.specs.Guarded.{function_body}
 use Rattle.flat_laws.specs.Flatten.{flattened}
-use Rattle.slim_functions.specs.Told.{GuardedSlim}
+use Rattle.slim_rewrite.specs.Told.{GuardedSlim}
 
 -- what gets a function's result
 abbrev pub body_got : Option ℕ → Code → Code

@@ -4,7 +4,7 @@ use Rattle.wa_types.specs.Frames.{SlotPairs, Count, Saved, FrameSize}
 use Rattle.wa_types.specs.Modules.{defined_at, locals_of}
 use Rattle.wa_types.specs.Pausing.{Policy, Settings, Numbered}
 use Rattle.wa_types.specs.Syntax.{Func, Module}
-use Rattle.wa_model.specs.FlatView.{flat_func_of}
+use Rattle.run_theory.specs.FlatView.{flat_func_of}
 use Rattle.flat_laws.specs.Flatten.{flattened}
 use Rattle.flatten.specs.declared.whole.Flattened.{Flattened}
 use Rattle.local_spill.specs.Laying.{in_a_row, saved_local}

@@ -3,18 +3,18 @@
 ghost use Rattle.std.specs.Prelude.{◌≡◌, ◌≤◌, ◌<◌, ◌^◌, ◌-◌, length, IfOk, OnOk};
 ghost use Rattle.wa_types.specs.Syntax.{Code, Func as PlainFunc, Module as PlainModule, done};
 ghost use Rattle.wa_types.specs.View.{code, onto};
-ghost use Rattle.wa_model.specs.FlatFits.{FlatFits};
-ghost use Rattle.wa_model.specs.FlatView.{flat_func_of};
+ghost use Rattle.run_theory.specs.FlatFits.{FlatFits};
+ghost use Rattle.run_theory.specs.FlatView.{flat_func_of};
 ghost use Rattle.local_spill.specs.Putting.{Puts};
 ghost use Rattle.local_spill.specs.Spilling.{restoring, saving, spill_indices, unless_normal};
 ghost use Rattle.guard_form.specs.Pieces.{call_total};
-ghost use Rattle.written_frames.specs.Emitting.{Rises};
+ghost use Rattle.flow_rewrite.specs.Emitting.{Rises};
 ghost use Rattle.func_rewrite.specs.Bodies.{IsSlimBody, body_got};
 ghost use Rattle.func_rewrite.specs.Frames.{IsFlattened};
 
 use flatten::Flattened;
 use local_spill::{Layout, RuntimeIds, epilogue, prologue};
-use slim_functions::guard_slim;
+use slim_rewrite::guard_slim;
 use std::alloc::{AllocError, Global};
 use wa_types::Instr;
 
@@ -43,51 +43,53 @@ pub fn unless_normal(alloc: Global, state: u32, arm: Vec<Instr>) -> Result<Vec<I
 }
 
 /// The body of a written function, whose numbered calls have these places, of slim pieces, between the code in front of it, which restores
-/// its frame where the state isn't 0, and the code behind it, which saves its frame there.
+/// its frame where the state isn't 0, and the code behind it, which saves its frame there. The flat function loses its statements.
 pub fn body_around(
     alloc: Global,
-    flat: &Flattened,
+    flat: &mut Flattened,
     numbers: &[u32],
     start: Vec<Instr>,
     end: Vec<Instr>,
     state: u32,
 ) -> Result<Vec<Instr>, AllocError>
-    requires fits { FlatFits (flat_func_of flat.now.func) }
+    requires fits { FlatFits (flat_func_of flat.old.func) }
     requires rises { Rises numbers.now }
-    requires few { call_total (flat_func_of flat.now.func).body < 2 ^ 32 }
-    requires slots { flat.now.first_slot ≤ flat.now.first_result }
-    ensures { IfOk result (λ v. (m : PlainModule) (f : PlainFunc) (r s : Code) → IsFlattened m f flat.now → ((rest : Code) → onto start.items rest ≡ unless_normal state r rest)
-        → ((rest : Code) → onto end.items rest ≡ unless_normal state s rest) → IsSlimBody m numbers.now state flat.now.func.func f r s (code v.items)) }
+    requires few { call_total (flat_func_of flat.old.func).body < 2 ^ 32 }
+    requires slots { flat.old.first_slot ≤ flat.old.first_result }
+    ensures { IfOk result (λ v. (m : PlainModule) (f : PlainFunc) (r s : Code) → IsFlattened m f flat.old → ((rest : Code) → onto start.items rest ≡ unless_normal state r rest)
+        → ((rest : Code) → onto end.items rest ≡ unless_normal state s rest) → IsSlimBody m numbers.now state flat.old.func.func f r s (code v.items)) }
 {
     let mut body = start;
     let mut behind = end;
-    let slots = (flat.first_result - flat.first_slot) as usize;
-    let guarded = guard_slim(alloc, &flat.func, numbers, state, flat.first_slot, slots)?;
+    let given = flat.func.result;
+    let low = flat.first_slot;
+    let slots = (flat.first_result - low) as usize;
+    let guarded = guard_slim(alloc, &mut flat.func, numbers, state, low, slots)?;
     body.push(Instr::Block {
         result: None,
         body: guarded,
     })?;
     body.append(&mut behind)?;
-    put_result(&mut body, flat.func.result)?;
+    put_result(&mut body, given)?;
     Ok(body)
 }
 
 /// The body of the written function, whose numbered calls have these places and whose frame keeps these locals.
 pub(crate) fn written_body(
     alloc: Global,
-    flat: &Flattened,
+    flat: &mut Flattened,
     numbers: &[u32],
     frame: Layout,
     ids: &RuntimeIds,
 ) -> Result<Vec<Instr>, AllocError>
-    requires fits { FlatFits (flat_func_of flat.now.func) }
+    requires fits { FlatFits (flat_func_of flat.old.func) }
     requires rises { Rises numbers.now }
-    requires few { call_total (flat_func_of flat.now.func).body < 2 ^ 32 }
-    requires slots { flat.now.first_slot ≤ flat.now.first_result }
+    requires few { call_total (flat_func_of flat.old.func).body < 2 ^ 32 }
+    requires slots { flat.old.first_slot ≤ flat.old.first_result }
     requires size { 4 ≤ frame.size }
-    ensures { IfOk result (λ v. (m : PlainModule) (f : PlainFunc) → IsFlattened m f flat.now
-        → IsSlimBody m numbers.now ids.now.state flat.now.func.func f (restoring (spill_indices (length flat.now.func.locals.items) ids.now) (frame.size - 4) frame.places.items done)
-        (saving (spill_indices (length flat.now.func.locals.items) ids.now) (frame.size - 4) frame.places.items done) (code v.items)) }
+    ensures { IfOk result (λ v. (m : PlainModule) (f : PlainFunc) → IsFlattened m f flat.old
+        → IsSlimBody m numbers.now ids.now.state flat.old.func.func f (restoring (spill_indices (length flat.old.func.locals.items) ids.now) (frame.size - 4) frame.places.items done)
+        (saving (spill_indices (length flat.old.func.locals.items) ids.now) (frame.size - 4) frame.places.items done) (code v.items)) }
 {
     let base = flat.func.locals.len() as u32;
     let mut frames = Vec::new(alloc);

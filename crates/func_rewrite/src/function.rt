@@ -1,4 +1,4 @@
-//! A function as it is written under the policy `all`, with the frames of its numbered calls.
+//! A function as it is written under the policy `all`, and the frames of its numbered calls.
 
 ghost use Rattle.std.specs.Prelude.{◌≡◌, IfOk};
 ghost use Rattle.wa_types.specs.Pausing.{Listed, save_all};
@@ -6,78 +6,48 @@ ghost use Rattle.wa_types.specs.Sizes.{StrictSizeRule};
 ghost use Rattle.wa_types.specs.Validity.{Valid as IsValid};
 ghost use Rattle.wa_types.specs.View.{func_of, module_of};
 ghost use Rattle.call_graph.specs.Settings.{settings_of};
-ghost use Rattle.asyncify_runtime.specs.Ids.{ids_behind};
-ghost use Rattle.written_frames.specs.Emitted.{IsAllWritten};
+ghost use Rattle.local_spill.specs.Ids.{ids_behind};
+ghost use Rattle.emitted_form.specs.Emitted.{IsAllWritten};
 ghost use Rattle.func_rewrite.specs.Frames.{IsFlattened, FramesUnder};
 
 use crate::body::written_body;
+use crate::frames::{call_frames, chosen_frame, saved_places};
+use crate::kept::kept_locals;
 use crate::locals::written_locals;
-use call_graph::Settings;
+use crate::pass::Pass;
 use flatten::Flattened;
-use local_spill::{Layout, RuntimeIds, layout};
+use flow_rewrite::number_calls;
+use local_spill::{Layout, layout};
 use std::alloc::{AllocError, Global};
-use wa_types::{Func, Module};
-use written_frames::{call_frames, chosen_frame, kept_locals, number_calls, saved_places};
+use wa_types::Func;
 
-/// A function as it is written, and the frames of its numbered calls.
-#[derive(Drop)]
-pub struct Written {
-    pub func: Func,
-    pub frames: Vec<Layout>,
-}
-
-/// The function as it is written under the policy `all`, and its frames, where `which` tells the functions that may pause and
-/// `listed` the imports that may. Takes time linear in the flat function and in what is answered.
+/// The function as it is written under the policy `all`; the flat function loses its statements. Takes time and memory linear in it.
 pub fn write_func(
     alloc: Global,
-    module: &Module,
-    settings: &Settings,
-    which: &[bool],
-    listed: &[bool],
+    pass: &Pass<'_>,
     source: &Func,
-    flat: &Flattened,
-    ids: &RuntimeIds,
-) -> Result<Written, AllocError>
-    requires valid { IsValid (module_of «module».now) }
-    requires sizes { StrictSizeRule (module_of «module».now) }
-    requires listed { listed.now ≡ Listed (module_of «module».now) (settings_of settings.now) }
-    requires ids { ids.now ≡ ids_behind (module_of «module».now) }
-    requires flat { IsFlattened (module_of «module».now) (func_of source.now) flat.now }
-    ensures func { IfOk result (λ w. IsAllWritten (module_of «module».now) (settings_of settings.now) which.now flat.now.func.func (func_of source.now) (func_of w.func)) }
-    ensures frames { IfOk result (λ w. FramesUnder save_all (module_of «module».now) (settings_of settings.now) which.now (func_of source.now) w.frames.items) }
-{
-    let func = emit_func(alloc, module, settings, which, listed, source, flat, ids)?;
-    let frames = func_frames(alloc, module, settings, which, listed, source, flat)?;
-    Ok(Written { func, frames })
-}
-
-/// The function as it is written under the policy `all`, without its frames, each of which names all its saved locals. Takes time and memory linear
-/// in the flat function.
-pub fn emit_func(
-    alloc: Global,
-    _module: &Module,
-    settings: &Settings,
-    which: &[bool],
-    listed: &[bool],
-    source: &Func,
-    flat: &Flattened,
-    ids: &RuntimeIds,
+    flat: &mut Flattened,
 ) -> Result<Func, AllocError>
-    requires valid { IsValid (module_of _module.now) }
-    requires sizes { StrictSizeRule (module_of _module.now) }
-    requires listed { listed.now ≡ Listed (module_of _module.now) (settings_of settings.now) }
-    requires ids { ids.now ≡ ids_behind (module_of _module.now) }
-    requires flat { IsFlattened (module_of _module.now) (func_of source.now) flat.now }
-    ensures { IfOk result (λ f. IsAllWritten (module_of _module.now) (settings_of settings.now) which.now flat.now.func.func (func_of source.now) (func_of f)) }
+    requires valid { IsValid (module_of pass.now.valid.now) }
+    requires sizes { StrictSizeRule (module_of pass.now.valid.now) }
+    requires listed { pass.now.listed.now ≡ Listed (module_of pass.now.valid.now) (settings_of pass.now.settings.now) }
+    requires ids { pass.now.ids.now ≡ ids_behind (module_of pass.now.valid.now) }
+    requires flat { IsFlattened (module_of pass.now.valid.now) (func_of source.now) flat.old }
+    ensures { IfOk result (λ f. IsAllWritten (module_of pass.now.valid.now) (settings_of pass.now.settings.now) pass.now.which.now flat.old.func.func (func_of source.now) (func_of f)) }
 {
     let own = flat.first_slot;
-    let flat_func = &flat.func;
-    let numbers = number_calls(alloc, flat_func, which, listed, settings.ignore_indirect)?;
-    let kept = kept_locals(alloc, flat_func, &numbers, own)?;
-    let saved = saved_places(alloc, &flat_func.locals, flat.first_result)?;
+    let numbers = number_calls(
+        alloc,
+        &flat.func,
+        pass.which,
+        pass.listed,
+        pass.settings.ignore_indirect,
+    )?;
+    let kept = kept_locals(alloc, &flat.func, &numbers, own)?;
+    let saved = saved_places(alloc, &flat.func.locals, flat.first_result)?;
     let frame = chosen_frame(alloc, layout(alloc, 0, &saved)?, &kept)?;
-    let body = written_body(alloc, flat, &numbers, frame, ids)?;
-    let locals = written_locals(alloc, &source.locals, &flat_func.locals, own)?;
+    let locals = written_locals(alloc, &source.locals, &flat.func.locals, own)?;
+    let body = written_body(alloc, flat, &numbers, frame, pass.ids)?;
     Ok(Func {
         sort: source.sort,
         locals,
@@ -85,23 +55,26 @@ pub fn emit_func(
     })
 }
 
-/// The frames of the function's numbered calls, in order.
-fn func_frames(
+/// The frames of the function's numbered calls under the policy `all`, in order: each names all its saved locals.
+pub fn func_frames(
     alloc: Global,
-    _module: &Module,
-    settings: &Settings,
-    which: &[bool],
-    listed: &[bool],
+    pass: &Pass<'_>,
     _source: &Func,
     flat: &Flattened,
 ) -> Result<Vec<Layout>, AllocError>
-    requires valid { IsValid (module_of _module.now) }
-    requires sizes { StrictSizeRule (module_of _module.now) }
-    requires listed { listed.now ≡ Listed (module_of _module.now) (settings_of settings.now) }
-    requires flat { IsFlattened (module_of _module.now) (func_of _source.now) flat.now }
-    ensures { IfOk result (λ ls. FramesUnder save_all (module_of _module.now) (settings_of settings.now) which.now (func_of _source.now) ls.items) }
+    requires valid { IsValid (module_of pass.now.valid.now) }
+    requires sizes { StrictSizeRule (module_of pass.now.valid.now) }
+    requires listed { pass.now.listed.now ≡ Listed (module_of pass.now.valid.now) (settings_of pass.now.settings.now) }
+    requires flat { IsFlattened (module_of pass.now.valid.now) (func_of _source.now) flat.now }
+    ensures { IfOk result (λ ls. FramesUnder save_all (module_of pass.now.valid.now) (settings_of pass.now.settings.now) pass.now.which.now (func_of _source.now) ls.items) }
 {
-    let numbers = number_calls(alloc, &flat.func, which, listed, settings.ignore_indirect)?;
+    let numbers = number_calls(
+        alloc,
+        &flat.func,
+        pass.which,
+        pass.listed,
+        pass.settings.ignore_indirect,
+    )?;
     let saved = saved_places(alloc, &flat.func.locals, flat.first_result)?;
     let frames = call_frames(alloc, &saved, numbers.len() as u32)?;
     Ok(frames)

@@ -1,12 +1,40 @@
-//! One function as it is written under the policy `all`: flat, in slim pieces, guarded, with the code that restores and saves its frame,
-//! and its frames. What doesn't look at the policy, the body around that code and the locals, serves `live_rewrite` too.
+//! One function as it is written by the policy of the settings: flat, in slim pieces, guarded, with the code of its frames.
+//!
+//! ```text
+//! where the state isn't 0: restore the frame
+//! block  guarded pieces; a call that returned with the state 1 leaves here  end
+//! where the state isn't 0: save the frame
+//! ```
+//!
+//! `write_by_policy` writes a function from its flat code (`flatten`), with its pieces and guards from `slim_rewrite`; `frames_by_policy`
+//! answers the frames of its numbered calls, for who asks for them.
+//!
+//! Under `all` a frame has a place for each parameter, declared local and slot. The written code goes over the parameters, the
+//! declared locals and the slots that hold an operand at some numbered call (`kept_locals`); the places of others stay as gaps
+//! (`chosen_frame`), and the code is that of `local_spill`. Under `live` the sets of locals that the numbered calls keep
+//! (`live_locals`) make the parts of the frames (`call_frames`), and these their code (`live_frames`).
+//!
+//! The law: the function is one that the definition of the emitted module asks for (`IsWritten` of `emitted_form/specs/EmittedAs.antt`), or
+//! memory is lacking. Which functions are written, and the module around them, are `module_rewrite`'s matter.
+//!
+//! - `pass`: what all functions of a module are written by.
+//! - `locals`, `body`: declared locals, and the body around guarded pieces, for both policies.
+//! - `kept`, `frames`, `function`: under `all` which locals frames keep, the frames of calls, and the function.
+//! - `calls`, `layouts`, `live_function`: the same under `live`.
+//! - `policy`: by the settings.
 #![tactic(auto)]
 
 mod body;
+mod calls;
+mod frames;
 mod function;
+mod kept;
+mod layouts;
+mod live_function;
 mod locals;
+mod pass;
+mod policy;
 
-pub use body::{body_around, unless_normal};
 pub use flatten::{FlatFault, Flattened, flatten_func};
-pub use function::{Written, emit_func, write_func};
-pub use locals::written_locals;
+pub use pass::Pass;
+pub use policy::{frames_by_policy, write_by_policy};

@@ -2,7 +2,7 @@
 
 ghost use Rattle.std.specs.Prelude.{◌≡◌, ◌≤◌, ◌++◌, ◌∷◌, [], drop, length, map, IfOk, OnOk};
 ghost use Rattle.wa_types.specs.declared.values.ValType.TheVariants.{I32, I64};
-ghost use Rattle.wa_model.specs.FlatFits.{one_run};
+ghost use Rattle.run_theory.specs.FlatFits.{one_run};
 
 use std::alloc::{AllocError, Global};
 use wa_types::{Run, ValType};

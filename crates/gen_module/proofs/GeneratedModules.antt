@@ -24,7 +24,7 @@ sorts_there : (n : ℕ) → types_there (generated n) ≡ true
 unfolding generated
 sorts_there n = ap (all_below 1) (sorts_are_zero n) ∙ zeros_below (suc n)
 
-func_count : (n : ℕ) → length (generated_funcs n) ≡ n
+pub func_count : (n : ℕ) → length (generated_funcs n) ≡ n
 func_count zero = refl
 func_count (suc n) = rw (length-append (generated_funcs n) (generated_func n ∷ []), func_count n) (add-one n)
 

@@ -16,7 +16,7 @@ by_sort i zero = refl
 by_sort i (suc zero) = refl
 by_sort i (suc (suc k)) = refl
 
-func_sort : (i : ℕ) → (generated_func i).sort ≡ 0
+pub func_sort : (i : ℕ) → (generated_func i).sort ≡ 0
 func_sort zero = refl
 func_sort (suc i) = by_sort (suc i) (suc i % 3)
 
@@ -38,7 +38,7 @@ unfolding generated
 all_sorts n = ap (λ (ss : List ℕ). 0 ∷ ss) (sorts n)
 
 -- each function up to n has the one type
-type_there : (n x : ℕ) → x ≤ n → slice_get (func_types (generated n)) x ≡ Some one_to_one
+pub type_there : (n x : ℕ) → x ≤ n → slice_get (func_types (generated n)) x ≡ Some one_to_one
 unfolding generated
 type_there n x h = slice_get-map (type_at (generated n)) (func_sorts (generated n)) x ∙ ap (λ (ss : List ℕ). option_map (type_at (generated n)) (slice_get ss x)) (all_sorts n)
     ∙ ap (option_map (type_at (generated n))) (zeros (suc n) x (omega arith))

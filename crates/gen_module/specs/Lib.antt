@@ -1,2 +1,3 @@
 pub mod Generated
-pub mod GeneratedLaws
+pub mod GeneratedModules
+pub mod GeneratedRuns

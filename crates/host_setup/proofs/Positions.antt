@@ -1,13 +1,12 @@
 -- Entries and their functions, place by place.
 use Rattle.std.proofs.Common.{◌≡◌, ℕ, ◌<◌, Option, Some, None, List, length, map, get_or, slice_get, sym, ap, ◌∙◌, refl, subst, Bool, true, Result, Vec, Global, if◌then◌else◌}
-use Rattle.std.specs.Option.{option_map, unwrap_or}
+use Rattle.std.specs.Option.{option_map, option_or, unwrap_or}
 use Rattle.std.proofs.lemmas.Option.{slice_get-map, slice_get_read}
 use Rattle.std.proofs.lemmas.List.{length-map}
 use Rattle.wa_types.specs.Syntax.{Module}
 use Rattle.wa_model.specs.declared.answers.Area.{Area}
 use Rattle.host_setup.specs.declared.entries.Entry.{Entry}
 use Rattle.host_setup.specs.declared.faults.SetupFault.{SetupFault}
-use Rattle.wa_model.specs.ScriptLines.{or_else}
 use Rattle.host_setup.specs.SetUp.{NamedEntry, Fault, area_bad, is_area_in, least_pages, entry_func, entry_funcs, all_told, entries_fault, module_fault, unless_fault, set_up}
 use Rattle.host_setup.specs.Views.{Reads, entry_of}
 
@@ -31,7 +30,7 @@ same_answer r imports imports' funcs funcs' tests tests' f t i h =
     subst (ReadsFuncs r) (ap (λ (n : ℕ). answer n funcs tests) i ∙ ap (λ (x : List (Option ℕ)). answer imports' x tests) f ∙ ap (answer imports' funcs') t) h
 
 abbrev in_area : Bool → Module → List NamedEntry → Result (List ℕ) Fault
-in_area t p es = unless_fault (or_else (if t then None else Some area_bad) (module_fault p es)) (all_told (entry_funcs p es))
+in_area t p es = unless_fault (option_or (if t then None else Some area_bad) (module_fault p es)) (all_told (entry_funcs p es))
 
 -- over a lawful area the rest decides
 pub area_is_fine : (r : Result (Vec ℕ Global) SetupFault) (p q : Module) (area : Area) (pages : ℕ) (es : List NamedEntry) → pages ≡ least_pages p → p ≡ q → is_area_in pages area ≡ true

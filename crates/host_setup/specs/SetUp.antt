@@ -2,7 +2,7 @@
 -- program enters.
 use Rattle.std.specs.Prelude.{ℕ, ◌+◌, ◌*◌, ◌%◌, ◌==◌, nat_lt, nat_le, not, ◌&&◌, if◌then◌else◌, List, [], ◌∷◌, map, Option, Some, None, Bool, true, false, Result, Ok, Err, codes, position}
 use Rattle.std.specs.List.{find, list_any}
-use Rattle.std.specs.Option.{unwrap_or, is_none}
+use Rattle.std.specs.Option.{is_none, option_or, unwrap_or}
 use Rattle.wa_types.specs.declared.values.ValType.TheVariants.{I32}
 use Rattle.wa_types.specs.declared.values.Value.{Value}
 use Rattle.wa_types.specs.declared.syntax.Export.{Export}
@@ -15,7 +15,6 @@ use Rattle.wa_types.specs.Validity.{same_name}
 use Rattle.wa_ops.specs.Operate.{are_of}
 use Rattle.wa_model.specs.declared.answers.Area.{Area}
 use Rattle.wa_model.specs.Instantiation.{least_of}
-use Rattle.wa_model.specs.ScriptLines.{or_else}
 use Rattle.wa_model.specs.Step.{same_func_type}
 use Rattle.std.specs.Str.{bytes_eq}
 
@@ -130,21 +129,21 @@ args_fault tests = fault_at arg_types (first_false tests)
 
 -- The first entry of an imported function, else that.
 abbrev pub calls_fault : (imports : ℕ) → (funcs : List (Option ℕ)) → (tests : List Bool) → Option Fault
-calls_fault imports funcs tests = or_else (fault_at entry_is_import (position (is_imported imports) funcs)) (args_fault tests)
+calls_fault imports funcs tests = option_or (fault_at entry_is_import (position (is_imported imports) funcs)) (args_fault tests)
 
 -- The first entry that names no exported function, else that.
 abbrev pub entries_fault : (imports : ℕ) → (funcs : List (Option ℕ)) → (tests : List Bool) → Option Fault
-entries_fault imports funcs tests = or_else (fault_at entry_missing (position is_none funcs)) (calls_fault imports funcs tests)
+entries_fault imports funcs tests = option_or (fault_at entry_missing (position is_none funcs)) (calls_fault imports funcs tests)
 
 -- The first of the five exports that isn't there, else a fault of an entry.
 abbrev pub module_fault : Module → List NamedEntry → Option Fault
 module_fault p entries =
-    or_else (fault_at no_export (first_false (map (is_there p) needed)))
+    option_or (fault_at no_export (first_false (map (is_there p) needed)))
     (entries_fault (func_imports p) (entry_funcs p entries) (have_args p entries))
 
 -- The first fault: each kind is asked of all entries before the next.
 abbrev pub first_fault : Module → Area → List NamedEntry → Option Fault
-first_fault p area entries = or_else (if is_area_in (least_pages p) area then None else Some area_bad) (module_fault p entries)
+first_fault p area entries = option_or (if is_area_in (least_pages p) area then None else Some area_bad) (module_fault p entries)
 
 -- a fault, where there is one, else what was made
 abbrev pub unless_fault : {A : Type 0} → Option Fault → A → Result A Fault

@@ -96,8 +96,10 @@ fn missing_export(
             imports,
             names,
             "asyncify_get_state",
-            &[],
-            &[ValType::I32],
+            Signature {
+                params: &[],
+                results: &[ValType::I32],
+            },
         ),
     ];
     let missing = first_false(&is_there)?;
@@ -117,7 +119,11 @@ fn is_start(
     requires names { IsTableOf names.now («module».now).exports.items }
     ensures { result ≡ is_there (module_of «module».now) (record { name = name.now; ty = record { params = I32 ∷ []; results = [] } }) }
 {
-    is_there(module, sorts, imports, names, name, &[ValType::I32], &[])
+    let address = Signature {
+        params: &[ValType::I32],
+        results: &[],
+    };
+    is_there(module, sorts, imports, names, name, address)
 }
 
 // Whether a name exports a function that takes nothing and has no result.
@@ -133,25 +139,36 @@ fn is_stop(
     requires names { IsTableOf names.now («module».now).exports.items }
     ensures { result ≡ is_there (module_of «module».now) (record { name = name.now; ty = record { params = []; results = [] } }) }
 {
-    is_there(module, sorts, imports, names, name, &[], &[])
+    let nothing = Signature {
+        params: &[],
+        results: &[],
+    };
+    is_there(module, sorts, imports, names, name, nothing)
 }
 
+// The type that is asked of a function.
+#[derive(Clone, Copy)]
+struct Signature<'a> {
+    params: &'a [ValType],
+    results: &'a [ValType],
+}
+
+// Whether a name exports a function of this type that isn't an import.
 fn is_there(
     module: &Module,
     sorts: &[u32],
     imports: usize,
     names: &BTreeMap<&str, Option<u32>>,
     name: &str,
-    params: &[ValType],
-    results: &[ValType],
+    ty: Signature<'_>,
 ) -> bool
     requires sorts { sorts.now ≡ func_sorts (module_of «module».now) }
     requires imports { imports ≡ func_imports (module_of «module».now) }
     requires names { IsTableOf names.now («module».now).exports.items }
-    ensures { result ≡ is_there (module_of «module».now) (record { name = name.now; ty = record { params = params.now; results = results.now } }) }
+    ensures { result ≡ is_there (module_of «module».now) (record { name = name.now; ty = record { params = ty.entry.params.now; results = ty.entry.results.now } }) }
 {
     let func = func_named(names, name);
-    is_defined_as(module, sorts, imports, func, params, results)
+    is_defined_as(module, sorts, imports, func, ty.params, ty.results)
 }
 
 // The function that is exported under a name.

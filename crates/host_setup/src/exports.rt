@@ -1,8 +1,8 @@
 //! The functions that a module exports, by their names (standard, section 2.5.10).
 
 ghost use Rattle.std.specs.Prelude.{◌≡◌, ℕ, List, IfOk, OnOk, None, Some, if◌then◌else◌};
+ghost use Rattle.std.specs.Option.{option_or};
 ghost use Rattle.wa_types.specs.Validity.{same_name};
-ghost use Rattle.wa_model.specs.ScriptLines.{or_else};
 ghost use Rattle.host_setup.specs.SetUp.{func_of, is_func};
 ghost use Rattle.host_setup.specs.Views.{IsTableOf, named_in};
 
@@ -30,7 +30,7 @@ fn put_export<'m>(
     names: &mut BTreeMap<&'m str, Option<u32>>,
     export: &'m Export,
 ) -> Result<(), AllocError>
-    ensures { OnOk result ((name : List ℕ) → named_in names.new name ≡ or_else (named_in names.old name) (if same_name export.now.name name then Some (func_of export.now) else None)) }
+    ensures { OnOk result ((name : List ℕ) → named_in names.new name ≡ option_or (named_in names.old name) (if same_name export.now.name name then Some (func_of export.now) else None)) }
 {
     let name = export.name.as_str();
     if names.contains_key(name) {

@@ -8,16 +8,16 @@ use Rattle.wa_types.specs.View.{code}
 use Rattle.wa_model.specs.Store.{Store}
 use Rattle.wa_model.specs.Configuration.{running}
 use Rattle.wa_model.specs.Step.{steps}
-use Rattle.wa_model.specs.Fitting.{types_of, StoreFits}
-use Rattle.interp_reduce.specs.Stack.{Stack}
+use Rattle.run_theory.specs.Fitting.{types_of, StoreFits}
+use Rattle.interp_state.specs.declared.activation.Stack.{Stack}
 use Rattle.interp.specs.declared.turns.Wait.TheVariants as WV
 use Rattle.interp.specs.Instance.{Awaits, ResumeLacks, waits_of}
-use Rattle.interp_reduce.specs.StackRooms.{StackRoom}
+use Rattle.interp.specs.StackRooms.{StackRoom}
 use Rattle.interp.specs.Runs.{LacksAt}
-use Rattle.interp_reduce.specs.View.{label_of, waiting_of}
+use Rattle.interp_state.specs.View.{label_of, waiting_of}
 use Rattle.interp.proofs.FittingTurns.{answered_fits}
-use Rattle.interp_reduce.proofs.OperandLemmas.{answered_with, answered_without}
-use Rattle.interp_reduce.proofs.RoomKept.{operands_within}
+use Rattle.interp_state.proofs.OperandLemmas.{answered_with, answered_without}
+use Rattle.interp.proofs.RoomKept.{operands_within}
 
 pub answer_lacked : (m : Module) (outs : List ValType) (s : Store) (k : Stack) (taken : ℕ) (value : Option Value)
     → vec_capacity k.here.operands < length (option_to_list value ++ drop taken (reverse k.here.operands.items))

@@ -4,15 +4,13 @@ use Rattle.std.specs.Prelude.{nat_lt, if◌then◌else◌, slice_get, slice_set,
 use Rattle.wa_types.specs.declared.values.Value.{Value}
 use Rattle.wa_types.specs.declared.values.Value.TheVariants as V
 use Rattle.wa_types.specs.declared.values.Trap.TheVariants.{StackExhausted, TypeMismatch}
-use Rattle.wa_types.specs.Syntax.{basic, local_get, local_set, local_tee, br, br_if, br_table, return, unreachable, call, call_indirect, a_block, a_loop, Plain, Code, done, plain, nest}
-use Rattle.wa_types.specs.Syntax.{branch, Func, Module}
+use Rattle.wa_types.specs.Syntax.{basic, local_get, local_set, local_tee, br, br_if, br_table, return, unreachable, call, call_indirect, a_block, a_loop, Plain, Code, done, plain, nest, branch, Func, Module}
 use Rattle.wa_types.specs.Modules.{func_imports, func_type_at, type_at, defined_at}
-use Rattle.wa_model.specs.Store.{Store, Did, works, fails, lacks, takes, act}
+use Rattle.wa_model.specs.Store.{choose, Store, Did, works, fails, lacks, takes, extra_cost, act}
 use Rattle.wa_model.specs.Configuration.{Label, block_label, loop_label, Activation, Configuration, running, waiting}
-use Rattle.wa_model.specs.Step.{Next, steps, asks, returns, traps, stuck, result_count, leave, jump, finish, did, with_top, with_number, choose, entered, invoke, param_count, same_func_type}
-use Rattle.wa_model.specs.Step.{through, memory_max, step_plain, step_at, step}
-use Rattle.wa_model.specs.Alone.{Finish, it_asks, FinishesAt, EndsAs, by_finish, by_steps}
-use Rattle.interp_reduce.specs.StackRooms.{TakesMemory, paid_for}
+use Rattle.wa_model.specs.Step.{Next, steps, asks, returns, traps, stuck, result_count, leave, jump, finish, did, with_top, with_number, entered, invoke, param_count, same_func_type, through, memory_max, step_plain, step_at, step}
+use Rattle.run_theory.specs.Alone.{Finish, it_asks, FinishesAt, EndsAs, by_finish, by_steps}
+use Rattle.interp.specs.StackRooms.{TakesMemory, paid_for}
 use Rattle.interp.specs.Runs.{LacksAt}
 
 -- where an import is asked, a call stands, and the store is as it was
@@ -37,10 +35,10 @@ module _ (m : Module) (s : Store) (fn : ℕ) (under : List Activation) (ls : Lis
   finish_asks ops (block_label h arity rest skipped ∷ labels) = tt
   finish_asks ops (loop_label h body rest ∷ labels) = tt
 
-  did_asks : (labels : List Label) (rest : Code) (below : List Value) (d : Did) → AsksFrom s c (did fn under ls labels rest s below d)
-  did_asks labels rest below (works s' results) = tt
-  did_asks labels rest below (fails trap) = tt
-  did_asks labels rest below lacks = tt
+  did_asks : (k : ℕ) (labels : List Label) (rest : Code) (below : List Value) (d : Did) → AsksFrom s c (did k fn under ls labels rest s below d)
+  did_asks k labels rest below (works s' results) = tt
+  did_asks k labels rest below (fails trap) = tt
+  did_asks k labels rest below lacks = tt
 
   top_asks : (ops : List Value) (on : Value → List Value → Next) → ((v : Value) (below : List Value) → AsksFrom s c (on v below)) → AsksFrom s c (with_top ops on)
   top_asks [] on f = tt
@@ -77,7 +75,7 @@ module _ (m : Module) (s : Store) (fn : ℕ) (under : List Activation) (ls : Lis
 
 module _ (m : Module) (s : Store) (fn : ℕ) (under : List Activation) (ls ops : List Value) (labels : List Label) where
   plain_asks : (p : Plain) (rest : Code) → AsksFrom s (plain p rest) (step_plain m s fn under ls ops labels rest p)
-  plain_asks (basic b) rest = did_asks m s fn under ls (plain (basic b) rest) labels rest (drop (takes b) ops) (act (memory_max m) b s (take (takes b) ops))
+  plain_asks (basic b) rest = did_asks m s fn under ls (plain (basic b) rest) (extra_cost b (take (takes b) ops)) labels rest (drop (takes b) ops) (act (memory_max m) b s (take (takes b) ops))
   plain_asks (local_get x) rest = tt
   plain_asks (local_set x) rest = top_asks m s fn under ls (plain (local_set x) rest) ops (λ v below. steps 0 (running s fn under (slice_set ls x v) below rest labels)) (λ v below. tt)
   plain_asks (local_tee x) rest = top_asks m s fn under ls (plain (local_tee x) rest) ops (λ v below. steps 0 (running s fn under (slice_set ls x v) (v ∷ below) rest labels)) (λ v below. tt)

@@ -11,16 +11,16 @@ use Rattle.wa_types.specs.Modules.{func_imports, func_sorts, func_type_at, defin
 use Rattle.wa_model.specs.Store.{Store}
 use Rattle.wa_model.specs.Configuration.{Configuration, running, waiting}
 use Rattle.wa_model.specs.Step.{entered}
-use Rattle.wa_model.specs.Alone.{it_returned, it_trapped, it_asks, it_spent}
-use Rattle.wa_model.specs.Fitting.{types_of, results_of, StoreFits, Fits}
-use Rattle.wa_model.proofs.FittingNames.{not_defined}
-use Rattle.wa_model.proofs.FittingRuns.{calls_fit, answers_fit, ends_fit}
-use Rattle.interp_reduce.specs.Stack.{Stack}
+use Rattle.run_theory.specs.Alone.{it_returned, it_trapped, it_asks, it_spent}
+use Rattle.run_theory.specs.Fitting.{types_of, results_of, StoreFits, Fits}
+use Rattle.run_theory.proofs.FittingNames.{not_defined}
+use Rattle.run_theory.proofs.FittingRuns.{calls_fit, answers_fit, ends_fit}
+use Rattle.interp_state.specs.declared.activation.Stack.{Stack}
 use Rattle.interp.specs.declared.turns.Turn.{Turn}
 use Rattle.interp.specs.declared.turns.Wait.TheVariants as WV
 use Rattle.interp.specs.declared.turns.Turn.TheVariants.{Returned, Trapped, Waiting, StepsSpent}
 use Rattle.interp.specs.Instance.{Waits, outermost, waits_of, Turns, IsCall, CallsAs, Calls, Resumes, Awaits, FitsAgain}
-use Rattle.interp_reduce.specs.View.{label_of, waiting_of}
+use Rattle.interp_state.specs.View.{label_of, waiting_of}
 use Rattle.interp.specs.Host.{memory_of, poked_in, PokesTo, Pokes}
 
 module _ (m : Module) (v : Valid m) (outs : List ValType) where

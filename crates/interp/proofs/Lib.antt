@@ -1,4 +1,11 @@
 pub mod AnswerRoom
 pub mod AskLemmas
+pub mod CallLemmas
 pub mod FittingTurns
+pub mod Fronts
+pub mod JumpLemmas
+pub mod NumberLemmas
+pub mod ReduceLemmas
+pub mod RestoreLemmas
+pub mod RoomKept
 pub mod RunLemmas

@@ -14,12 +14,12 @@ use Rattle.wa_model.specs.Configuration.{Configuration}
 use Rattle.wa_model.specs.Step.{Next, steps, asks, returns, traps, stuck, step}
 use Rattle.wa_model.specs.Store.{Store}
 use Rattle.wa_model.specs.Blocking.{Note, value_of_results}
-use Rattle.wa_model.specs.Alone.{alone, alone_next, Goes, Finish, it_spent, FinishesAt, CostsAbove, EndsAs, by_finish, by_steps}
-use Rattle.wa_model.specs.Fitting.{results_of, Fits, NextFits}
-use Rattle.wa_model.proofs.Runs.{leads_on}
-use Rattle.wa_model.proofs.FittingSteps.{steps_fit}
-use Rattle.wa_model.proofs.FittingRuns.{leads_fit, listed_few, outs_few}
-use Rattle.interp_reduce.specs.Told.{IsUnpaid}
+use Rattle.run_theory.specs.Alone.{alone, alone_next, Goes, Finish, it_spent, FinishesAt, CostsAbove, EndsAs, by_finish, by_steps}
+use Rattle.run_theory.specs.Fitting.{results_of, Fits, NextFits}
+use Rattle.run_theory.proofs.Runs.{leads_on}
+use Rattle.run_theory.proofs.FittingSteps.{steps_fit}
+use Rattle.run_theory.proofs.FittingRuns.{leads_fit, listed_few, outs_few}
+use Rattle.interp.specs.Told.{IsUnpaid}
 
 one_told : (values : List Value) (value : Option Value) → length values ≤ 1 → value ≡ value_of_results values → values ≡ option_to_list value
 one_told [] value h e = ap option_to_list (sym e)

@@ -1,5 +1,6 @@
 -- What a host sees of an instance.
-use Rattle.std.specs.Prelude.{◌≡◌, ℕ, nat_lt, if◌then◌else◌, List, length, Option, Some, None, Bool, true, false}
+use Rattle.std.specs.Prelude.{◌≡◌, ℕ, nat_lt, if◌then◌else◌, List, [], length, Option, Some, None, Bool, true, false}
+use Rattle.std.specs.Option.{unwrap_or}
 use Rattle.wa_types.specs.declared.values.Value.{Value}
 use Rattle.wa_types.specs.Syntax.{Module}
 use Rattle.wa_types.specs.Memory.{with_piece}
@@ -8,7 +9,7 @@ use Rattle.wa_types.specs.View.{module_of}
 use Rattle.wa_model.specs.Store.{Store, with_memory}
 use Rattle.interp.specs.declared.instance.Instance.{Instance}
 use Rattle.interp.specs.declared.turns.Turn.{Turn}
-use Rattle.interp_reduce.specs.View.{store_of}
+use Rattle.interp_state.specs.View.{store_of}
 use Rattle.interp.specs.Instance.{Waits, waits_of, Calls}
 
 -- its module
@@ -26,6 +27,10 @@ waits_in i = waits_of i.wait
 -- the bytes of the memory, where the module has one
 abbrev pub memory_of : Module → Store → Option (List ℕ)
 memory_of m s = if nat_lt 0 (length (all_memories m)) then Some s.memory else None
+
+-- the bytes of an instance's memory; none where its module has none
+abbrev pub memory_in : Instance → List ℕ
+memory_in i = unwrap_or (memory_of (code_in i) (store_in i)) []
 
 -- the bytes of a memory that is there, with some written at a place, where they lie inside
 abbrev pub poked_in : Option (List ℕ) → (at : ℕ) → (bytes : List ℕ) → Option (List ℕ)

@@ -10,14 +10,14 @@ use Rattle.wa_model.specs.Store.{Store}
 use Rattle.wa_model.specs.Configuration.{Activation, Configuration, waiting}
 use Rattle.wa_model.specs.Step.{entered}
 use Rattle.wa_model.specs.Blocking.{resumed}
-use Rattle.wa_model.specs.Alone.{it_returned, it_trapped, it_asks, it_spent, EndsAs}
-use Rattle.wa_model.specs.Fitting.{types_of, results_of, StoreFits, CallersFit}
+use Rattle.run_theory.specs.Alone.{it_returned, it_trapped, it_asks, it_spent, EndsAs}
+use Rattle.run_theory.specs.Fitting.{types_of, results_of, StoreFits, CallersFit}
 use Rattle.interp.specs.declared.turns.Turn.{Turn}
 use Rattle.interp.specs.declared.turns.Turn.TheVariants.{Returned, Trapped, Waiting, StepsSpent}
 use Rattle.interp.specs.declared.turns.Wait as W
 use Rattle.interp.specs.declared.turns.Wait.TheVariants as WV
 use Rattle.interp.specs.Runs.{LacksAt}
-use Rattle.interp_reduce.specs.View.{label_of, waiting_of}
+use Rattle.interp_state.specs.View.{label_of, waiting_of}
 
 -- What waits for the answer of an import: nothing, the host, which called it itself, or an activation with those below it.
 pub data Waits : Type 0 where

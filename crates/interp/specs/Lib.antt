@@ -1,5 +1,8 @@
-pub use Rattle.interp_make.specs.Faults
 pub mod Host
 pub mod Instance
+pub mod Restoring
 pub mod Runs
+pub mod StackRooms
+pub mod Stacks
+pub mod Told
 pub mod WaitRooms

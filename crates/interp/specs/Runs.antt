@@ -5,12 +5,12 @@ use Rattle.wa_types.specs.Syntax.{Module}
 use Rattle.wa_model.specs.Store.{Store}
 use Rattle.wa_model.specs.Configuration.{Configuration}
 use Rattle.wa_model.specs.Step.{step}
-use Rattle.wa_model.specs.Alone.{Goes, it_returned, it_trapped, it_asks, it_spent, EndsAs}
+use Rattle.run_theory.specs.Alone.{Goes, it_returned, it_trapped, it_asks, it_spent, EndsAs}
 use Rattle.interp.specs.declared.run.Stop.{Stop}
 use Rattle.interp.specs.declared.run.Stop.TheVariants.{Returned, Trapped, Asked, Spent}
-use Rattle.interp_reduce.specs.StackRooms.{TakesMemory, paid_for}
-use Rattle.interp_reduce.specs.View.{taking}
-use Rattle.interp_reduce.specs.Told.{args_below}
+use Rattle.interp.specs.StackRooms.{TakesMemory, paid_for}
+use Rattle.interp_state.specs.View.{taking}
+use Rattle.interp.specs.Told.{args_below}
 
 -- the next reduction costs more than is left
 pub record EndsSpent (m : Module) (c : Configuration) (left used : ℕ) (d : Configuration) : Type 0 where

@@ -2,7 +2,7 @@
 use Rattle.wa_types.specs.Syntax.{Module}
 use Rattle.interp.specs.declared.turns.Wait.{Wait}
 use Rattle.interp.specs.declared.turns.Wait.TheVariants.{Nothing, Outermost, Inside}
-use Rattle.interp_reduce.specs.StackRooms.{StackRoom, stack_prop}
+use Rattle.interp.specs.StackRooms.{StackRoom, stack_prop}
 
 -- what waits has the room of its stack
 abbrev pub WaitRoom : Module → Wait → Type 0

@@ -1,10 +1,11 @@
 //! Instances of valid modules: made, called, resumed, and their memory and globals shown (standard, sections 4.5.4 and 4.5.5).
 
-ghost use Rattle.std.specs.Prelude.{◌≡◌, ◌<◌, ◌≤◌, ◌+◌, ◌-◌, ◌^◌, ◌++◌, List, All, IfOk, IfErr, OnErr, nat_lt, vec_capacity, length, drop, reverse};
+ghost use Rattle.std.specs.Prelude.{◌≡◌, ◌<◌, ◌≤◌, ◌+◌, ◌-◌, ◌*◌, ◌^◌, ◌++◌, List, All, IfOk, IfErr, OnErr, None, nat_lt, vec_capacity, length, map, drop, reverse};
 ghost use Rattle.std.specs.Bool.{OnTrue, OnFalse};
 ghost use Rattle.std.specs.Coded.{codes};
 ghost use Rattle.std.specs.Option.{option_copied, option_to_list};
-ghost use Rattle.wa_types.specs.Modules.{all_memories};
+ghost use Rattle.wa_types.specs.Memory.{IsWholePages, page_size, pages_of};
+ghost use Rattle.wa_types.specs.Modules.{all_memories, all_tables};
 ghost use Rattle.wa_types.specs.Validity.{Valid as IsValid};
 ghost use Rattle.wa_types.specs.View.{module_of};
 ghost use Rattle.wa_types.specs.contracts.instrs.Instr as instr;
@@ -14,8 +15,7 @@ ghost use Rattle.interp.specs.WaitRooms.{WaitRoom, wait_prop};
 use crate::go_on::{call_from_outside, go_on};
 use crate::run::Steps;
 use crate::turns::{Turn, Wait};
-use interp_make::{MakeFault, open};
-use interp_reduce::{Program, Store, all_memories, make_program};
+use interp_state::{MakeFault, Program, Store, all_memories, make_program, open, restore};
 use std::alloc::{AllocError, Global};
 use std::mem;
 use wa_types::{Module, Value};
@@ -37,13 +37,15 @@ pub struct Instance<'m> {
 
 impl<'m> Instance<'m> {
     ghost use Rattle.interp.specs.Instance.{Awaits, CallLacks, Calls, FitsAgain, ResumeLacks, Resumes, nothing, waits_of};
-    ghost use Rattle.interp_make.specs.Faults.{FailsAs};
-    ghost use Rattle.wa_types.specs.Modules.{func_sorts, func_type_at, imported, imported_global};
-    ghost use Rattle.wa_model.specs.Fitting.{types_of, global_types, results_of, StoreFits};
+    ghost use Rattle.interp_state.specs.Faults.{FailsAs};
+    ghost use Rattle.wa_types.specs.Modules.{all_globals, func_sorts, func_type_at, imported, imported_global};
+    ghost use Rattle.run_theory.specs.Fitting.{types_of, global_types, results_of, StoreFits};
     ghost use Rattle.wa_types.specs.declared.values.ValType.{ValType};
-    ghost use Rattle.wa_model.specs.Instantiation.{opening, opens};
-    ghost use Rattle.interp_reduce.specs.Rooms.{HasFewInstrs};
-    ghost use Rattle.interp.specs.Host.{code_in, store_in, waits_in, memory_of, CallsAside, Pokes};
+    ghost use Rattle.wa_model.specs.Instantiation.{elem_piece, first_out, least_of, opening, opens};
+    ghost use Rattle.interp_state.specs.Making.{restored_store};
+    ghost use Rattle.interp_state.specs.Rooms.{HasFewInstrs};
+    ghost use Rattle.interp.specs.Host.{code_in, store_in, waits_in, memory_in, memory_of, CallsAside, Pokes};
+    ghost use Rattle.interp.specs.Restoring.{IsRestorable};
 
     /// An instance of a module whose imported globals have these values, one each of its type, before its start function
     /// runs (standard, section 4.5.4).
@@ -80,6 +82,55 @@ impl<'m> Instance<'m> {
         let memories = all_memories(alloc, source)?;
         let has_memory = memories.len() > 0;
         let store = open(alloc, source, &memories, globals)?;
+        let program = make_program(alloc, source)?;
+        Ok(Instance {
+            valid,
+            program,
+            store,
+            has_memory,
+            wait: Wait::Nothing,
+        })
+    }
+
+    /// An instance of a module with these globals, one each by index and of its type, and this memory. Its table is that of
+    /// instantiation, whose element segments fit it; start isn't run, and nothing waits.
+    pub fn restore(
+        alloc: Global,
+        valid: &'m Valid,
+        globals: &[Value],
+        memory: &[u8],
+    ) -> Result<Instance<'m>, AllocError>
+        requires globals { types_of globals.now ≡ global_types (all_globals (module_of valid.now)) }
+        requires elems { first_out (least_of (all_tables (module_of valid.now))) 0 (map (elem_piece globals.now) (module_of valid.now).elems) ≡ None }
+        requires entries { least_of (all_tables (module_of valid.now)) ≤ 100000 }
+        requires memory { IsRestorable (module_of valid.now) memory.now }
+        ensures code { IfOk result (λ i. code_in i ≡ module_of valid.now) }
+        ensures store { IfOk result (λ i. store_in i ≡ restored_store (module_of valid.now) globals.now memory.now) }
+        ensures fits { IfOk result (λ i. StoreFits (code_in i) (store_in i)) }
+        ensures waits { IfOk result (λ i. waits_in i ≡ nothing) }
+    {
+        Instance::restored(alloc, valid, valid.module(), globals, memory)
+    }
+
+    // The same, with the module that the valid one holds.
+    fn restored(
+        alloc: Global,
+        valid: &'m Valid,
+        source: &'m Module,
+        globals: &[Value],
+        memory: &[u8],
+    ) -> Result<Instance<'m>, AllocError>
+        requires same { source.now ≡ valid.now }
+        requires few { All HasFewInstrs source.now.funcs.items }
+        requires elems { first_out (least_of (all_tables (module_of source.now))) 0 (map (elem_piece globals.now) (module_of source.now).elems) ≡ None }
+        requires memory { IsWholePages memory.now }
+        ensures code { IfOk result (λ i. code_in i ≡ module_of source.now) }
+        ensures store { IfOk result (λ i. store_in i ≡ restored_store (module_of source.now) globals.now memory.now) }
+        ensures waits { IfOk result (λ i. waits_in i ≡ nothing) }
+    {
+        let memories = all_memories(alloc, source)?;
+        let has_memory = memories.len() > 0;
+        let store = restore(alloc, source, &memories, globals, memory)?;
         let program = make_program(alloc, source)?;
         Ok(Instance {
             valid,
@@ -196,6 +247,17 @@ impl<'m> Instance<'m> {
             return Some(self.store.memory.bytes());
         }
         None
+    }
+
+    /// How many pages of 65,536 bytes the memory has; 0 where the module has none.
+    pub fn pages(&self) -> u32
+        ensures count { result ≡ pages_of (memory_in self.now) }
+        ensures whole { length (memory_in self.now) ≡ result * page_size }
+    {
+        if self.has_memory {
+            return self.store.memory.size();
+        }
+        0
     }
 
     /// Writes bytes into the memory. False exactly where there is no memory or they reach past it, and then nothing changes.

@@ -5,12 +5,13 @@ ghost use Rattle.wa_types.specs.declared.values.ValType.{ValType};
 ghost use Rattle.wa_types.specs.Validity.{Valid};
 ghost use Rattle.wa_types.specs.View.{module_of};
 ghost use Rattle.wa_model.specs.Step.{memory_max};
-ghost use Rattle.wa_model.specs.Fitting.{Fits};
-ghost use Rattle.interp_reduce.specs.StackRooms.{StackRoom};
+ghost use Rattle.run_theory.specs.Fitting.{Fits};
+ghost use Rattle.interp.specs.StackRooms.{StackRoom};
 ghost use Rattle.interp.specs.Runs.{LacksAt, RunsTo};
-ghost use Rattle.interp_reduce.specs.View.{store_of, running_of};
+ghost use Rattle.interp_state.specs.View.{store_of, running_of};
 
-use interp_reduce::{Flow, Program, Stack, Store, reduce};
+use crate::reducing::reduce;
+use interp_state::{Flow, Program, Stack, Store};
 use std::alloc::AllocError;
 use wa_types::{Trap, Value};
 

@@ -1,6 +1,6 @@
 //! How a call of an instance turns out, and what waits in it.
 
-use interp_reduce::Stack;
+use interp_state::Stack;
 use wa_model::Call;
 use wa_types::{Trap, Value};
 

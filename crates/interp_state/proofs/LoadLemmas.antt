@@ -9,8 +9,8 @@ use Rattle.wa_types.specs.Memory.{number_at}
 use Rattle.wa_types.specs.Syntax.{load}
 use Rattle.wa_ops.specs.Loads.{load_value}
 use Rattle.wa_model.specs.Store.{Store, extended, loaded, load_at}
-use Rattle.instr_tables.specs.declared.access.Access.{Access}
-use Rattle.instr_tables.specs.Access.{row_of}
+use Rattle.wa_ops.specs.declared.access.Access.{Access}
+use Rattle.wa_ops.specs.Access.{row_of}
 use Rattle.interp_state.specs.Effects.{worked, effect, effect_over}
 
 extended_is : (op natural : ℕ) (ty : ValType) (signed : Bool) (n : ℕ) → extended (record { opcode = op; ty = ty; natural = natural; signed = signed }) n ≡ load_value ty (2 ^ natural) signed n

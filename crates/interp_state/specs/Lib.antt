@@ -1,2 +1,5 @@
 pub mod Effects
+pub mod Faults
+pub mod Making
+pub mod Rooms
 pub mod View

@@ -8,9 +8,8 @@ ghost use Rattle.interp_state.specs.View.{store_of};
 use crate::flow::Flow;
 use crate::store::Store;
 use crate::values::{set_at, value_at};
-use instr_tables::{load_access, store_access};
 use std::alloc::AllocError;
-use wa_ops::load_value;
+use wa_ops::{load_access, load_value, store_access};
 use wa_types::{Trap, ValType, Value};
 
 /// A load (standard, section 4.4.4.1).

@@ -8,9 +8,8 @@ ghost use Rattle.wa_model.specs.Store.{Store};
 ghost use Rattle.interp_state.specs.Effects.{effect, Shows};
 
 use crate::flow::Flow;
-use instr_tables::type_of_value;
 use std::alloc::AllocError;
-use wa_ops::{OperatorClass, binary, compare, convert, operand_type, unary};
+use wa_ops::{OperatorClass, binary, compare, convert, operand_type, type_of_value, unary};
 use wa_types::{NumOp, Value};
 
 /// A numeric instruction (standard, section 4.4.1).

@@ -12,8 +12,7 @@ IsUnsigned bits (b ∷ bs) n =
     ((b < 128) × (b < 2 ^ bits) × (bs ≡ []) × (n ≡ b))
     ⊎ ((128 ≤ b) × (b < 256) × (7 < bits) × (high : ℕ) × (n + 128 ≡ b + 128 * high) × IsUnsigned (bits - 7) bs high)
 
--- The number of a signed spelling's last byte (5.2.2), as so many bits of two's complement; the byte's unused bits
--- have to repeat the sign.
+-- The number of a signed spelling's last byte (5.2.2), as so many bits of two's complement; unused bits have to repeat the sign.
 abbrev pub last_signed : ℕ → ℕ → Result ℕ LebFault
 last_signed bits b =
     if nat_lt b 64 then (if nat_lt b (2 ^ (bits - 1)) then Ok b else Err Bits)
@@ -64,8 +63,7 @@ spelled (suc k) n = if nat_lt n 128 then n ∷ [] else (n % 128 + 128) ∷ spell
 abbrev pub shortest : ℕ → List ℕ
 shortest n = spelled 10 n
 
--- the shortest spelling of so many bits of two's complement, in at most so many bytes: the last byte holds
--- what is at least -64 and below 64
+-- the shortest spelling of so many bits of two's complement, in at most so many bytes: the last holds what is at least -64 and below 64
 unfoldable pub signed_spelled : ℕ → ℕ → ℕ → List ℕ
 signed_spelled zero bits n = []
 signed_spelled (suc k) bits n =

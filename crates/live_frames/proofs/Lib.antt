@@ -1,3 +1,11 @@
+pub mod CountSteps
+pub mod DigitSteps
+pub mod EndSteps
+pub mod FieldSteps
+pub mod MeasureSteps
 pub mod PieceLemmas
 pub mod PutSteps
+pub mod RowSteps
+pub mod WeightSteps
 pub mod WholeCodes
+pub mod WordSteps

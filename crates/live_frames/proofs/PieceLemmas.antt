@@ -8,10 +8,10 @@ use Rattle.local_spill.specs.Spilling.{stored_value, loaded_value}
 use Rattle.frame_laws.specs.Layout.{FrameField, kept, gap, fields_size, stores, loads}
 use Rattle.call_frames.specs.FrameParts.{parts_stored, parts_loaded, scratch_raised, scratch_lowered}
 use Rattle.call_frames.specs.PlainFrames.{SavedPart, at_every, at_these, at_calls, parts_of}
-use Rattle.call_classes.specs.declared.frames.KeptLocal.{KeptLocal}
-use Rattle.call_classes.specs.declared.frames.KeptPart.{KeptPart}
-use Rattle.call_classes.specs.Views.{kept_field, fields_of, part_view, part_views}
-use Rattle.call_sizes.proofs.FieldSteps.{shared_bytes}
+use Rattle.call_frames.specs.declared.frames.KeptLocal.{KeptLocal}
+use Rattle.call_frames.specs.declared.frames.KeptPart.{KeptPart}
+use Rattle.call_frames.specs.Views.{kept_field, fields_of, part_view, part_views}
+use Rattle.live_frames.proofs.FieldSteps.{shared_bytes}
 
 -- ---- fields
 

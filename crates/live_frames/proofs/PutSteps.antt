@@ -12,12 +12,12 @@ use Rattle.local_spill.specs.Spilling.{stored_value, loaded_value, location_of}
 use Rattle.frame_laws.specs.Layout.{fields_size, stores, loads}
 use Rattle.call_frames.specs.FrameParts.{parts_stored, parts_loaded}
 use Rattle.call_frames.specs.PlainFrames.{SavedPart, parts_of}
-use Rattle.call_classes.specs.declared.frames.KeptLocal.{KeptLocal}
-use Rattle.call_classes.specs.declared.frames.KeptPart.{KeptPart}
+use Rattle.call_frames.specs.declared.frames.KeptLocal.{KeptLocal}
+use Rattle.call_frames.specs.declared.frames.KeptPart.{KeptPart}
 use Rattle.live_frames.specs.Putting.{room_tested}
-use Rattle.call_classes.specs.Views.{fields_of, part_view, part_views}
+use Rattle.call_frames.specs.Views.{fields_of, part_view, part_views}
 use Rattle.live_frames.proofs.PieceLemmas.{stored_more, loaded_more, part_stored, part_loaded}
-use Rattle.call_sizes.proofs.FieldSteps.{shared_bytes}
+use Rattle.live_frames.proofs.FieldSteps.{shared_bytes}
 
 -- what is put, told otherwise
 pub put_same : {X : Type 0} (old new : List Instr) (f : X → Code → Code) (x y : X) → x ≡ y → Puts old new (f x) → Puts old new (f y)

@@ -1,2 +1,4 @@
-pub use Rattle.frame_laws.specs.Layout
+pub mod Digits
+pub mod Ends
 pub mod Putting
+pub mod Rows

@@ -4,7 +4,7 @@ ghost use Rattle.std.specs.Prelude.{◌≡◌, OnOk};
 ghost use Rattle.local_spill.specs.Putting.{Puts};
 ghost use Rattle.live_frames.specs.Putting.{scratch_moved};
 
-use call_classes::KeptLocal;
+use call_frames::KeptLocal;
 use local_spill::{Place, put_all};
 use std::alloc::AllocError;
 use wa_types::{Instr, NumOp, Value};

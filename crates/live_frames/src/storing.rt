@@ -7,13 +7,13 @@ ghost use Rattle.frame_laws.specs.Layout.{fields_size, stores};
 ghost use Rattle.call_frames.specs.FrameParts.{parts_stored, scratch_raised};
 ghost use Rattle.call_frames.specs.PlainFrames.{parts_of};
 ghost use Rattle.local_spill.specs.Putting.{Puts};
-ghost use Rattle.call_classes.specs.Classes.{FewParts, part_fields};
-ghost use Rattle.call_classes.specs.Views.{fields_of, part_view, part_views};
+ghost use Rattle.call_frames.specs.Classes.{FewParts, part_fields};
+ghost use Rattle.call_frames.specs.Views.{fields_of, part_view, part_views};
 
+use crate::fields::{shared_in, size_of};
 use crate::putting::{field_at, put_scratch_moved};
-use call_classes::{KeptLocal, KeptPart};
-use call_sizes::{shared_in, size_of};
-use call_tests::put_under_test;
+use crate::testing::put_under_test;
+use call_frames::{KeptLocal, KeptPart};
 use local_spill::{put_stored, width};
 use std::alloc::{AllocError, Global};
 use wa_types::{Instr, NumOp};

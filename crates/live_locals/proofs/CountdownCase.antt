@@ -2,8 +2,8 @@
 use Rattle.std.proofs.Common.{◌≡◌, ◌∙◌, ℕ, ◌<◌, [], ◌∷◌, get_or, Bool, true, false, refl, sym, ap, arith, subst}
 use Rattle.std.specs.Prelude.{length}
 use Rattle.wa_types.specs.Liveness.{live}
-use Rattle.wa_model.specs.Flat.{code_of, followed_by, result_got}
-use Rattle.live_passes.specs.Ops.{OpsFit}
+use Rattle.run_theory.specs.Flat.{code_of, followed_by, result_got}
+use Rattle.live_locals.specs.Ops.{OpsFit}
 use Rattle.live_locals.specs.Rows.{kept}
 use Rattle.live_locals.specs.LiveAt.{KeepsAt}
 use Rattle.live_locals.specs.Countdown.{countdown, CountdownKeeps}

@@ -1,9 +1,7 @@
 -- What is kept at calls, told exactly.
-use Rattle.std.proofs.Common.{◌≡◌, ◌∙◌, ℕ, zero, suc, ◌-◌, ◌+◌, ◌<◌, ◌≤◌, ◌↔◌, ◌⊎◌, inl, inr, List, [], ◌∷◌, ◌++◌, length, map, get_or, Option, Some, None, Bool, true, false}
-use Rattle.std.proofs.Common.{◌||◌, All, refl, sym, ap, arith, subst}
-use Rattle.std.specs.Prelude.{Vec, if◌then◌else◌, nat_eq, slice_get}
+use Rattle.std.proofs.Common.{◌≡◌, ◌∙◌, ℕ, zero, suc, ◌-◌, ◌+◌, ◌<◌, ◌≤◌, ◌↔◌, ◌⊎◌, inl, inr, List, [], ◌∷◌, ◌++◌, length, map, get_or, Option, Some, None, Bool, true, false, ◌||◌, All, refl, sym, ap, arith, subst}
+use Rattle.std.specs.Prelude.{if◌then◌else◌, nat_eq, slice_get}
 use Rattle.std.specs.List.{list_any}
-use Rattle.std.specs.declared.alloc.Global.{Global}
 use Rattle.std.proofs.lemmas.Bool.{cases_eq, eqb-true, eq-eqb, ne_eqb}
 use Rattle.std.proofs.lemmas.List.{append-nil}
 use Rattle.wa_types.specs.Syntax.{basic, local_get, local_set, local_tee, br_if, br_table, call, call_indirect, a_block, a_loop, Code, done, plain, branch}
@@ -11,18 +9,16 @@ use Rattle.wa_types.specs.Liveness.{Label, goes_behind, goes_again, Position, po
 use Rattle.wa_types.proofs.LiveLemmas.{live_reads, reads_live}
 use Rattle.wa_model.specs.declared.flat.Operand.{Operand}
 use Rattle.wa_model.specs.declared.flat.Operand.TheVariants.{Local, Const}
-use Rattle.wa_model.specs.Flat.{Stmts, no_more, computes, copies, calls, leaps, leaps_if, leaps_by, nests, decides, halts, FlatFunc, followed_by, got, all_got, set_to, slots_got, last_of}
-use Rattle.wa_model.specs.Flat.{code_of, result_got, body_of}
-use Rattle.wa_model.specs.FlatFits.{IsCallCode}
+use Rattle.run_theory.specs.Flat.{Stmts, no_more, computes, copies, calls, leaps, leaps_if, leaps_by, nests, decides, halts, FlatFunc, followed_by, got, all_got, set_to, slots_got, last_of, code_of, result_got, body_of}
+use Rattle.run_theory.specs.FlatFits.{IsCallCode}
 use Rattle.guard_form.specs.Grouping.{is_place}
 use Rattle.flat_laws.specs.FlatModule.{stacks_in}
-use Rattle.flat_rules.specs.Behind.{Among}
+use Rattle.flat_laws.specs.Behind.{Among}
 use Rattle.flow_rewrite.specs.Emitting.{Rises}
-use Rattle.live_passes.specs.Ops.{IsComputation, OpsFit}
-use Rattle.live_passes.specs.Sets.{has}
-use Rattle.live_locals.specs.Rows.{kept, chosen, column}
-use Rattle.live_locals.specs.LiveAt.{lists_of, KeepsAt}
-use Rattle.live_passes.proofs.CodeLemmas.{live_slots}
+use Rattle.live_locals.specs.Ops.{IsComputation, OpsFit}
+use Rattle.live_locals.specs.Rows.{kept, chosen}
+use Rattle.live_locals.specs.LiveAt.{KeepsAt}
+use Rattle.live_locals.proofs.CodeLemmas.{live_slots}
 
 -- ---- places that rise
 
@@ -93,13 +89,6 @@ module _ {X : Type 0} (ns : List ℕ) (d : X) where
 -- Of items by places those at rising numbers in range are the items there.
 pub chosen_is : {X : Type 0} (ns : List ℕ) (d : X) (xs : List X) → Rises ns → All (λ n. n < length xs) ns → chosen ns 0 xs ≡ map (λ p. get_or xs (p - 0) d) ns
 chosen_is ns d xs h b = chosen_from ns d 0 xs ns (up_first ns h) (λ i z l. let r = b i z l in omega (arith, r)) (λ p le. refl)
-
--- ---- columns
-
-pub column_at : (sets : List (Vec Bool Global)) (k x : ℕ) → has (get_or (lists_of sets) k []) x ≡ get_or (column x sets) k false
-column_at [] k x = refl
-column_at (v ∷ sets) zero x = refl
-column_at (v ∷ sets) (suc k) x = column_at sets k x
 
 -- ---- each call with its stack and the place behind it
 

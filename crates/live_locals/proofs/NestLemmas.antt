@@ -1,26 +1,24 @@
 -- What is known inside nests of loops, statement by statement.
-use Rattle.std.proofs.Common.{◌≡◌, ◌∙◌, ℕ, suc, ◌-◌, ◌+◌, ◌<◌, ◌≤◌, ◌⊎◌, inl, inr, ◌^◌, List, [], ◌∷◌, ◌++◌, length, reverse, take, drop, get_or, Option, Some, Bool, true, false}
-use Rattle.std.proofs.Common.{◌||◌, ◌&&◌, refl, sym, ap, arith, subst, length-append}
+use Rattle.std.proofs.Common.{◌≡◌, ◌∙◌, ℕ, suc, ◌-◌, ◌+◌, ◌<◌, ◌≤◌, ◌⊎◌, inl, inr, ◌^◌, List, [], ◌∷◌, ◌++◌, length, reverse, take, drop, get_or, Option, Some, Bool, true, false, ◌||◌, ◌&&◌, refl, sym, ap, arith, subst, length-append}
 use Rattle.std.specs.Prelude.{Vec, nat_eq, if◌then◌else◌, replicate, Result, Ok, Err, IfOk, OnOk}
 use Rattle.std.specs.declared.alloc.Global.{Global}
 use Rattle.std.proofs.lemmas.Bool.{cases_lt, ne_eqb, eq-eqb, lt-ltb}
-use Rattle.std.proofs.lemmas.List.{append-nil, append_assoc, drop-append-le, drop_all, drop_at, drop-drop, length-drop, length-reverse, get_or-replicate, length-replicate, reverse-append}
-use Rattle.std.proofs.lemmas.List.{take-append-drop, take_all, take_more}
+use Rattle.std.proofs.lemmas.List.{append-nil, append_assoc, drop-append-le, drop_all, drop_at, drop-drop, length-drop, length-reverse, get_or-replicate, length-replicate, reverse-append, take-append-drop, take_all, take_more}
 use Rattle.wa_types.specs.Syntax.{a_block, a_loop}
 use Rattle.wa_types.specs.Liveness.{live}
 use Rattle.wa_model.specs.declared.flat.Operand.{Operand}
 use Rattle.wa_model.specs.declared.flat.Stmt.{Stmt}
-use Rattle.wa_model.specs.Flat.{Stmts, no_more, nests, decides, code_of}
-use Rattle.wa_model.specs.FlatView.{stmt_in_front, stmts}
-use Rattle.flat_pieces.proofs.StmtLemmas.{stmts_step, stmts_end}
-use Rattle.live_passes.specs.Sets.{has, told_of, told_by, TellsBefore, Passed}
-use Rattle.live_passes.proofs.SetLemmas.{told_more, or_none}
-use Rattle.live_passes.proofs.PassLemmas.{popped}
-use Rattle.live_words.specs.Words.{bit, world, meets, WordsPassed}
-use Rattle.live_words.specs.Heads.{deeper, loop_total, heads, Knows, HeadsPut}
-use Rattle.live_words.proofs.WordLemmas.{world_long, world_has}
-use Rattle.live_words.proofs.LevelLemmas.{meets_first}
-use Rattle.live_words.proofs.HeadLemmas.{knows_on, knows_left, knows_right, knows_as, loops_front, heads_front, heads_count, heads_tail}
+use Rattle.run_theory.specs.Flat.{Stmts, no_more, nests, decides, code_of}
+use Rattle.run_theory.specs.FlatView.{stmt_in_front, stmts}
+use Rattle.flow_rewrite.proofs.StmtLemmas.{stmts_step, stmts_end}
+use Rattle.live_locals.specs.Sets.{has, told_of, told_by, TellsBefore, Passed}
+use Rattle.live_locals.proofs.SetLemmas.{told_more, or_none}
+use Rattle.live_locals.proofs.PassLemmas.{popped}
+use Rattle.live_locals.specs.Words.{bit, world, meets, WordsPassed}
+use Rattle.live_locals.specs.Heads.{deeper, loop_total, heads, Knows, HeadsPut}
+use Rattle.live_locals.proofs.WordLemmas.{world_long, world_has}
+use Rattle.live_locals.proofs.LevelLemmas.{meets_first}
+use Rattle.live_locals.proofs.HeadLemmas.{knows_on, knows_left, knows_right, knows_as, loops_front, heads_front, heads_count, heads_tail}
 use Rattle.live_locals.specs.Nests.{joined, in_some, told_in_some, Around, NestOf, Nest, AtLoop, Enters}
 use Rattle.live_locals.proofs.UnionLemmas.{live_in_some, told_again, some_again, told_cons, some_same, none_in_some, up_more}
 

@@ -6,7 +6,7 @@ use Rattle.wa_types.specs.declared.values.Value.TheVariants.{I32 as value_32}
 use Rattle.wa_types.specs.declared.operators.NumOp.TheVariants.{I32Add, I32Sub}
 use Rattle.wa_types.specs.Syntax.{num, basic, call, a_loop, done, plain}
 use Rattle.wa_model.specs.declared.flat.Operand.TheVariants.{Local, Const}
-use Rattle.wa_model.specs.Flat.{Stmts, no_more, computes, copies, calls, leaps_if, nests, decides, FlatFunc}
+use Rattle.run_theory.specs.Flat.{Stmts, no_more, computes, copies, calls, leaps_if, nests, decides, FlatFunc}
 use Rattle.live_locals.specs.LiveAt.{KeepsAt}
 
 -- a turn of the loop

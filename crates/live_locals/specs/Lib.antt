@@ -1,6 +1,10 @@
-pub use Rattle.flow_rewrite.specs.Emitting
-pub use Rattle.flow_rewrite.specs.Numbering
-pub mod Nests
-pub mod Rows
-pub mod LiveAt
 pub mod Countdown
+pub mod Heads
+pub mod Keeping
+pub mod LiveAt
+pub mod LiveSaved
+pub mod Nests
+pub mod Ops
+pub mod Rows
+pub mod Sets
+pub mod Words

@@ -2,10 +2,11 @@
 use Rattle.std.specs.Prelude.{◌≡◌, ◌↔◌, ◌⊎◌, ◌<◌, ℕ, List, [], length, map, get_or, Some, Bool, true, slice_get, Vec}
 use Rattle.std.specs.declared.alloc.Global.{Global}
 use Rattle.wa_types.specs.Liveness.{Position, ReadsFirst, behind_calls}
-use Rattle.wa_model.specs.Flat.{FlatFunc, body_of}
+use Rattle.run_theory.specs.Flat.{FlatFunc, body_of}
 use Rattle.flat_laws.specs.FlatModule.{stacks_in}
-use Rattle.flat_rules.specs.Behind.{Among}
-use Rattle.live_passes.specs.Sets.{has}
+use Rattle.flat_laws.specs.Behind.{Among}
+use Rattle.call_frames.specs.Classes.{AreKept}
+use Rattle.live_locals.specs.Sets.{has}
 
 -- the sets as lists
 abbrev pub lists_of : List (Vec Bool Global) → List (List Bool)
@@ -28,3 +29,9 @@ pub record LiveAtCalls (f : FlatFunc) (numbers : List ℕ) (sets : List (List Bo
   pub calls : length sets ≡ length numbers
   pub locals : (k : ℕ) → k < length numbers → length (get_or sets k []) ≡ length f.locals
   pub exact : (k place x : ℕ) → slice_get numbers k ≡ Some place → x < length f.locals → (has (get_or sets k []) x ≡ true) ↔ KeepsAt f place x
+
+-- For each local the calls that keep it, counted among these calls: there are sets as above that these calls tell.
+pub record LiveRows (f : FlatFunc) (numbers : List ℕ) (keepers : List (List ℕ)) : Type 0 where
+  pub sets : List (List Bool)
+  pub live : LiveAtCalls f numbers sets
+  pub kept : AreKept (length f.locals) (length numbers) sets keepers

@@ -2,10 +2,10 @@
 use Rattle.std.specs.Prelude.{◌≡◌, ◌<◌, ◌≤◌, ◌||◌, ◌&&◌, ◌^◌, ℕ, suc, List, [], ◌∷◌, length, get_or, Option, Bool, false, Vec, nat_eq}
 use Rattle.std.specs.declared.alloc.Global.{Global}
 use Rattle.wa_types.specs.Liveness.{live}
-use Rattle.wa_model.specs.Flat.{Stmts, code_of}
-use Rattle.live_passes.specs.Sets.{has, told_of}
-use Rattle.live_words.specs.Words.{bit, meets}
-use Rattle.live_words.specs.Heads.{deeper, heads, Knows}
+use Rattle.run_theory.specs.Flat.{Stmts, code_of}
+use Rattle.live_locals.specs.Sets.{has, told_of}
+use Rattle.live_locals.specs.Words.{bit, meets}
+use Rattle.live_locals.specs.Heads.{deeper, heads, Knows}
 
 -- what two lists of answers tell together
 abbrev pub joined : List Bool → List Bool → List Bool

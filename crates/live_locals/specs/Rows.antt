@@ -1,14 +1,16 @@
 -- What is kept at the numbered calls of statements, local by local.
-use Rattle.std.specs.Prelude.{◌≡◌, ◌<◌, ◌≤◌, ◌+◌, ◌++◌, ℕ, zero, suc, List, [], ◌∷◌, length, map, reverse, Bool, false, All, Vec, if◌then◌else◌}
+use Rattle.std.specs.Prelude.{◌≡◌, ◌<◌, ◌≤◌, ◌+◌, ◌++◌, ℕ, zero, suc, List, [], ◌∷◌, length, Bool, false, Vec, if◌then◌else◌}
 use Rattle.std.specs.declared.alloc.Global.{Global}
-use Rattle.wa_types.specs.Syntax.{Shape, a_block, a_loop, Code, done}
+use Rattle.wa_types.specs.Syntax.{Shape, a_block, a_loop, Code}
 use Rattle.wa_types.specs.Liveness.{live}
-use Rattle.wa_model.specs.Flat.{Stmts, no_more, computes, copies, calls, leaps, leaps_if, leaps_by, nests, decides, halts, set_to, slots_got, code_of}
+use Rattle.run_theory.specs.Flat.{Stmts, no_more, computes, copies, calls, leaps, leaps_if, leaps_by, nests, decides, halts, set_to, slots_got, code_of}
 use Rattle.guard_form.specs.Grouping.{is_place}
 use Rattle.guard_form.specs.Pieces.{call_total}
 use Rattle.flow_rewrite.specs.Emitting.{Rises}
-use Rattle.live_passes.specs.Ops.{OpsFit}
-use Rattle.live_passes.specs.Sets.{has, told_of}
+use Rattle.live_locals.specs.Keeping.{Stands, calls_kept}
+use Rattle.live_locals.specs.Ops.{OpsFit}
+use Rattle.live_locals.specs.Sets.{has, told_of}
+use Rattle.live_locals.specs.declared.keeping.Keeping.{Keeping}
 
 -- what is told of a construct's own label
 abbrev pub label_tells : ℕ → Shape → List Bool → (behind : Bool) → Code → Bool
@@ -41,9 +43,10 @@ abbrev pub numbered_from : (numbers : List ℕ) → (place count : ℕ) → ℕ
 numbered_from ns n zero = 0
 numbered_from ns n (suc k) = if is_place ns n then suc (numbered_from ns (suc n) k) else numbered_from ns (suc n) k
 
--- what sets tell of one local
-abbrev pub column : ℕ → List (Vec Bool Global) → List Bool
-column x rows = map (λ (set : Vec Bool Global). has set.items x) rows
+-- the numbers of the calls of which these answers tell, from this one on
+abbrev pub calls_told : (call : ℕ) → List Bool → List ℕ
+calls_told k [] = []
+calls_told k (b ∷ bs) = (if b then k ∷ [] else []) ++ calls_told (suc k) bs
 
 -- Statements whose calls can be counted down from this place, among rising numbers.
 pub record Countable (numbers : List ℕ) (last : ℕ) (s : Stmts) : Type 0 where
@@ -51,17 +54,18 @@ pub record Countable (numbers : List ℕ) (last : ℕ) (s : Stmts) : Type 0 wher
   pub rises : Rises numbers
   pub room : call_total s ≤ last
 
--- Behind the old sets stands that of one call, where it is numbered; `set` tells what is read first from just after the call on.
-pub record RowPut (numbered : Bool) (set : List Bool) (stack : List ℕ) (old new : List (Vec Bool Global)) : Type 0 where
-  pub sizes : All (λ (row : Vec Bool Global). length row.items ≡ length set) old → All (λ (row : Vec Bool Global). length row.items ≡ length set) new
-  pub count : length new ≡ length old + (if numbered then 1 else 0)
-  pub columns : (tos : List (Vec Bool Global)) (x : ℕ) → x < length set
-      → column x new ≡ column x old ++ (if numbered then live x (told_of x tos) (has set x) (slots_got stack done) ∷ [] else [])
-
--- Behind the old sets stand those of the numbered calls of statements, the last call first. The place of the first call is `first`,
--- and `last` is the one behind them.
-pub record RowsPut (numbers : List ℕ) (tos : List (Vec Bool Global)) (behind : List Bool) (s : Stmts) (last first : ℕ) (old new : List (Vec Bool Global)) : Type 0 where
+-- Before the calls that keep each local stand the numbered ones of statements. The place of their first call is `first`, and `last` is
+-- the one behind them.
+pub record CallsBefore (numbers : List ℕ) (tos : List (Vec Bool Global)) (behind : List Bool) (s : Stmts) (last first : ℕ) (old new : ℕ → List ℕ) : Type 0 where
   pub places : first + call_total s ≡ last
-  pub sizes : All (λ (set : Vec Bool Global). length set.items ≡ length behind) old → All (λ (set : Vec Bool Global). length set.items ≡ length behind) new
-  pub count : length new ≡ length old + numbered_from numbers first (call_total s)
-  pub columns : (x : ℕ) → x < length behind → column x new ≡ column x old ++ reverse (chosen numbers first (kept x (told_of x tos) (has behind x) s))
+  pub each : (x : ℕ) → x < length behind → new x ≡ calls_told (numbered_from numbers 0 first) (chosen numbers first (kept x (told_of x tos) (has behind x) s)) ++ old x
+
+-- the numbered calls before this place are those to come
+pub record StandsAt (numbers : List ℕ) (place size : ℕ) (st : Keeping) : Type 0 where
+  pub stands : Stands size st
+  pub left : st.left ≡ numbered_from numbers 0 place
+
+-- The calls of statements are told, and what is read first before them is this.
+pub record RowsPut (numbers : List ℕ) (tos : List (Vec Bool Global)) (behind before : List Bool) (s : Stmts) (last first : ℕ) (old new : Keeping) : Type 0 where
+  pub told : CallsBefore numbers tos behind s last first (calls_kept old behind) (calls_kept new before)
+  pub there : StandsAt numbers first (length behind) new

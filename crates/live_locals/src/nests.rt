@@ -3,15 +3,17 @@
 ghost use Rattle.std.specs.Prelude.{◌≡◌, ◌<◌, ◌≤◌, ◌∷◌, ◌++◌, [], ℕ, suc, List, Vec, Bool, Option, Some, length, drop, reverse, replicate, IfOk, OnOk};
 ghost use Rattle.std.specs.declared.alloc.Global.{Global};
 ghost use Rattle.wa_types.specs.Syntax.{a_loop};
-ghost use Rattle.wa_model.specs.Flat.{Stmts, code_of, no_more, nests};
-ghost use Rattle.wa_model.specs.FlatView.{stmt_in_front, stmts};
-ghost use Rattle.live_passes.specs.Ops.{OpsFit};
-ghost use Rattle.live_passes.specs.Sets.{told_by, Passed, TellsBefore};
-ghost use Rattle.live_words.specs.Heads.{loop_total};
+ghost use Rattle.run_theory.specs.Flat.{Stmts, code_of, no_more, nests};
+ghost use Rattle.run_theory.specs.FlatView.{stmt_in_front, stmts};
+ghost use Rattle.live_locals.specs.Ops.{OpsFit};
+ghost use Rattle.live_locals.specs.Sets.{told_by, Passed, TellsBefore};
+ghost use Rattle.live_locals.specs.Heads.{loop_total};
 ghost use Rattle.live_locals.specs.Nests.{AtLoop, Enters, Nest};
 
-use live_passes::pass_stmt;
-use live_words::{broadcast, entered, loop_sizes, met, pass_words};
+use crate::levels::{broadcast, entered, met};
+use crate::passes::pass_stmt;
+use crate::sizes::loop_sizes;
+use crate::word_passes::{LoopAround, WordPass, pass_stmt as pass_words};
 use std::alloc::{AllocError, Global};
 use wa_model::Stmt;
 
@@ -24,6 +26,22 @@ const DEEP: u32 = 4;
 pub(crate) struct Inside {
     pub(crate) level: u32,
     pub(crate) reach: Vec<u64>,
+}
+
+/// The same, lent to what stands there.
+#[derive(Clone, Copy)]
+pub(crate) struct Around<'a> {
+    pub(crate) level: u32,
+    pub(crate) reach: &'a [u64],
+}
+
+/// What a walk goes by at a place: `tos` tells for each label what is read first from its target on, and `heads` has entries for the
+/// loops to come, the next last.
+#[derive(Drop)]
+pub(crate) struct Walk {
+    pub(crate) alloc: Global,
+    pub(crate) tos: Vec<Vec<bool>>,
+    pub(crate) heads: Vec<Option<Vec<u64>>>,
 }
 
 /// The words that were kept for the next loop.
@@ -106,17 +124,13 @@ fn begin_nest(
     let mut inside = Vec::new(alloc);
     let mut inner = Vec::new(alloc);
     let sizes = loop_sizes(alloc, stmt)?;
-    pass_words(
+    let pass = WordPass {
         alloc,
-        tos,
-        &mut inner,
-        0,
-        &sizes,
-        0,
-        &mut inside,
-        &mut words,
-        stmt,
-    )?;
+        outer: tos,
+        sizes: &sizes,
+    };
+    let outermost = LoopAround { level: 0, size: 0 };
+    pass_words(pass, &mut inner, outermost, &mut inside, &mut words, stmt)?;
     skip_heads(heads, inside.len().saturating_sub(1));
     put_heads(heads, inside)?;
     take_head(heads);
@@ -124,40 +138,38 @@ fn begin_nest(
     enter_known(alloc, set, 0, &reach, &words)
 }
 
-/// A loop is entered: `set` tells what is read first from its head on. `level` loops of the nest stand around it, the worlds in
-/// `reach` hold, and `heads` has entries for this loop and those inside it, the next last.
+/// A loop is entered: `set` tells what is read first from its head on. The walk has entries for this loop and those inside it, the
+/// next last.
+#[inline(never)]
 pub(crate) fn enter_loop(
-    alloc: Global,
-    tos: &mut Vec<Vec<bool>>,
+    walk: &mut Walk,
     set: &mut [bool],
-    level: u32,
-    reach: &[u64],
-    heads: &mut Vec<Option<Vec<u64>>>,
+    around: Around<'_>,
     stmt: &Stmt,
     body: &[Stmt],
 ) -> Result<Inside, AllocError>
     requires ops { OpsFit (stmt_in_front stmt.now no_more) }
     requires is_loop { stmt_in_front stmt.now no_more ≡ nests a_loop (stmts body.now) no_more }
-    requires nest { Nest level reach.now tos.old.items set.old (reverse heads.old.items) (nests a_loop (stmts body.now) no_more) }
-    ensures passed { OnOk result (Passed tos.old.items tos.new.items set.old set.new (code_of (nests a_loop (stmts body.now) no_more))) }
-    ensures rest { OnOk result (drop (loop_total (stmts body.now)) (reverse heads.new.items) ≡ drop (suc (loop_total (stmts body.now))) (reverse heads.old.items)) }
-    ensures inside { IfOk result (λ n. (v : Vec Bool Global) → v.items ≡ set.new → Nest n.level n.reach.items (tos.old.items ++ v ∷ []) set.old (reverse heads.new.items) (stmts body.now)) }
+    requires nest { Nest around.level around.reach.now walk.old.tos.items set.old (reverse walk.old.heads.items) (nests a_loop (stmts body.now) no_more) }
+    ensures passed { OnOk result (Passed walk.old.tos.items walk.new.tos.items set.old set.new (code_of (nests a_loop (stmts body.now) no_more))) }
+    ensures rest { OnOk result (drop (loop_total (stmts body.now)) (reverse walk.new.heads.items) ≡ drop (suc (loop_total (stmts body.now))) (reverse walk.old.heads.items)) }
+    ensures inside { IfOk result (λ n. (v : Vec Bool Global) → v.items ≡ set.new → Nest n.level n.reach.items (walk.old.tos.items ++ v ∷ []) set.old (reverse walk.new.heads.items) (stmts body.now)) }
 {
-    let known = take_head(heads);
-    if level < 63 {
+    let known = take_head(&mut walk.heads);
+    if around.level < 63 {
         if let Some(words) = known {
             if words.len() == set.len() {
-                return enter_known(alloc, set, level, reach, &words);
+                return enter_known(walk.alloc, set, around.level, around.reach, &words);
             }
         }
     }
     if is_deep(body, DEEP) {
-        return begin_nest(alloc, tos, set, heads, stmt);
+        return begin_nest(walk.alloc, &walk.tos, set, &mut walk.heads, stmt);
     }
-    pass_stmt(alloc, tos, set, stmt)?;
+    pass_stmt(walk.alloc, &mut walk.tos, set, stmt)?;
     Ok(Inside {
         level: 63,
-        reach: Vec::new(alloc),
+        reach: Vec::new(walk.alloc),
     })
 }
 

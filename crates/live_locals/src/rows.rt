@@ -1,86 +1,55 @@
-//! The sets of the numbered calls of statements.
+//! The numbered calls of statements, and the locals that they keep.
 
-ghost use Rattle.std.specs.Prelude.{◌≡◌, drop, reverse, IfOk, OnOk};
-ghost use Rattle.wa_model.specs.Flat.{code_of, no_more};
-ghost use Rattle.wa_model.specs.FlatView.{stmt_in_front, stmts};
-ghost use Rattle.guard_form.specs.Grouping.{is_place};
-ghost use Rattle.flow_rewrite.specs.Emitting.{Rises};
-ghost use Rattle.live_words.specs.Heads.{loop_total};
+ghost use Rattle.std.specs.Prelude.{◌≡◌, drop, length, reverse, IfOk, OnOk};
+ghost use Rattle.run_theory.specs.Flat.{code_of, no_more};
+ghost use Rattle.run_theory.specs.FlatView.{stmt_in_front, stmts};
+ghost use Rattle.live_locals.specs.Heads.{loop_total};
 ghost use Rattle.live_locals.specs.Nests.{Nest};
-ghost use Rattle.live_locals.specs.Rows.{Countable, RowPut, RowsPut};
-ghost use Rattle.live_passes.specs.Sets.{Passed};
+ghost use Rattle.live_locals.specs.Rows.{Countable, RowsPut, StandsAt};
+ghost use Rattle.live_locals.specs.Sets.{Passed};
 
-use crate::nests::enter_loop;
-use live_passes::{copied, join, pass_simple, read_operand, read_slots, read_taken, write_told};
-use std::alloc::{AllocError, Global};
+use crate::keeping::{Keeping, put_call, settle_all, settle_told, settle_touched};
+use crate::nests::{Around, Walk, enter_loop};
+use crate::sets::{copied, join, read_operand, write_told};
+use crate::steps::{pass_simple, read_taken};
+use std::alloc::AllocError;
 use wa_model::Stmt;
 
-/// Whether the call at this place is numbered.
-fn is_numbered(numbers: &[u32], place: u32) -> bool
-    requires { Rises numbers.now }
-    ensures { result ≡ is_place numbers.now place }
-{
-    numbers.binary_search(&place).is_ok()
+/// The calls that are still to come: the places of the numbered ones among all calls, and the place behind the last to come.
+#[derive(Clone, Copy)]
+pub(crate) struct CallsLeft<'a> {
+    pub(crate) numbers: &'a [u32],
+    pub(crate) last: u32,
 }
 
-/// Puts the set of the call at this place, where it is numbered: `set` tells what is read first from just after the call on.
-fn put_row(
-    alloc: Global,
-    rows: &mut Vec<Vec<bool>>,
-    numbers: &[u32],
-    place: u32,
-    set: &[bool],
-    stack: &[u32],
-) -> Result<(), AllocError>
-    requires { Rises numbers.now }
-    ensures { OnOk result (RowPut (is_place numbers.now place) set.now stack.now rows.old.items rows.new.items) }
-{
-    if is_numbered(numbers, place) {
-        let mut row = copied(alloc, set)?;
-        read_slots(&mut row, stack);
-        rows.push(row)?;
-    }
-    Ok(())
-}
-
-/// Puts the sets of a body's numbered calls, the last call first, and passes over it backwards. `last` is the place behind its
-/// calls; the place of its first call is answered. `level` loops of a nest stand around the body, the worlds in `reach` hold, and
-/// `heads` has entries for the loops in it, the next last.
+/// Tells which locals a body's numbered calls keep, the last call first, and passes over it backwards. The place of its first call is
+/// answered. The walk has entries for the loops in the body, the next last. Between calls, branches and constructs only the locals that
+/// statements touch are looked at.
 #[cycle(rows)]
 pub(crate) fn put_body_rows(
-    alloc: Global,
-    rows: &mut Vec<Vec<bool>>,
-    numbers: &[u32],
-    last: u32,
-    level: u32,
-    reach: &[u64],
-    heads: &mut Vec<Option<Vec<u64>>>,
-    tos: &mut Vec<Vec<bool>>,
+    walk: &mut Walk,
+    keeping: &mut Keeping,
+    calls: CallsLeft<'_>,
+    around: Around<'_>,
     set: &mut [bool],
     body: &[Stmt],
 ) -> Result<u32, AllocError>
-    requires calls { Countable numbers.now last (stmts body.now) }
-    requires nest { Nest level reach.now tos.old.items set.old (reverse heads.old.items) (stmts body.now) }
-    ensures passed { OnOk result (Passed tos.old.items tos.new.items set.old set.new (code_of (stmts body.now))) }
-    ensures rows { IfOk result (λ first. RowsPut numbers.now tos.old.items set.old (stmts body.now) last first rows.old.items rows.new.items) }
-    ensures heads { OnOk result (reverse heads.new.items ≡ drop (loop_total (stmts body.now)) (reverse heads.old.items)) }
+    requires calls { Countable calls.numbers.now calls.last (stmts body.now) }
+    requires nest { Nest around.level around.reach.now walk.old.tos.items set.old (reverse walk.old.heads.items) (stmts body.now) }
+    requires there { StandsAt calls.numbers.now calls.last (length set.old) keeping.old }
+    ensures passed { OnOk result (Passed walk.old.tos.items walk.new.tos.items set.old set.new (code_of (stmts body.now))) }
+    ensures rows { IfOk result (λ first. RowsPut calls.entry.numbers.now walk.old.tos.items set.old set.new (stmts body.now) calls.entry.last first keeping.old keeping.new) }
+    ensures heads { OnOk result (reverse walk.new.heads.items ≡ drop (loop_total (stmts body.now)) (reverse walk.old.heads.items)) }
 {
-    let mut first = last;
+    let mut first = calls.last;
     let mut left = body.len();
     while left > 0 {
         left -= 1;
-        first = put_stmt_rows(
-            alloc,
-            rows,
-            numbers,
-            first,
-            level,
-            reach,
-            heads,
-            tos,
-            set,
-            &body[left],
-        )?;
+        let before = CallsLeft {
+            last: first,
+            ..calls
+        };
+        first = put_stmt_rows(walk, keeping, before, around, set, &body[left])?;
     }
     Ok(first)
 }
@@ -88,22 +57,19 @@ pub(crate) fn put_body_rows(
 /// The same of a statement.
 #[cycle(rows)]
 fn put_stmt_rows(
-    alloc: Global,
-    rows: &mut Vec<Vec<bool>>,
-    numbers: &[u32],
-    last: u32,
-    level: u32,
-    reach: &[u64],
-    heads: &mut Vec<Option<Vec<u64>>>,
-    tos: &mut Vec<Vec<bool>>,
+    walk: &mut Walk,
+    keeping: &mut Keeping,
+    calls: CallsLeft<'_>,
+    around: Around<'_>,
     set: &mut [bool],
     stmt: &Stmt,
 ) -> Result<u32, AllocError>
-    requires calls { Countable numbers.now last (stmt_in_front stmt.now no_more) }
-    requires nest { Nest level reach.now tos.old.items set.old (reverse heads.old.items) (stmt_in_front stmt.now no_more) }
-    ensures passed { OnOk result (Passed tos.old.items tos.new.items set.old set.new (code_of (stmt_in_front stmt.now no_more))) }
-    ensures rows { IfOk result (λ first. RowsPut numbers.now tos.old.items set.old (stmt_in_front stmt.now no_more) last first rows.old.items rows.new.items) }
-    ensures heads { OnOk result (reverse heads.new.items ≡ drop (loop_total (stmt_in_front stmt.now no_more)) (reverse heads.old.items)) }
+    requires calls { Countable calls.numbers.now calls.last (stmt_in_front stmt.now no_more) }
+    requires nest { Nest around.level around.reach.now walk.old.tos.items set.old (reverse walk.old.heads.items) (stmt_in_front stmt.now no_more) }
+    requires there { StandsAt calls.numbers.now calls.last (length set.old) keeping.old }
+    ensures passed { OnOk result (Passed walk.old.tos.items walk.new.tos.items set.old set.new (code_of (stmt_in_front stmt.now no_more))) }
+    ensures rows { IfOk result (λ first. RowsPut calls.entry.numbers.now walk.old.tos.items set.old set.new (stmt_in_front stmt.now no_more) calls.entry.last first keeping.old keeping.new) }
+    ensures heads { OnOk result (reverse walk.new.heads.items ≡ drop (loop_total (stmt_in_front stmt.now no_more)) (reverse walk.old.heads.items)) }
 {
     match stmt {
         Stmt::Call {
@@ -112,37 +78,31 @@ fn put_stmt_rows(
             to,
             ..
         } => {
+            let place = calls.last - 1;
+            settle_told(keeping, set, *to)?;
             write_told(set, *to);
-            put_row(alloc, rows, numbers, last - 1, set, stack)?;
+            put_call(keeping, calls.numbers, place, set, stack, *args)?;
             read_taken(set, stack, *args);
-            Ok(last - 1)
+            Ok(place)
         }
         Stmt::Block(body) => {
-            tos.push(copied(alloc, set)?)?;
-            let first = put_body_rows(
-                alloc, rows, numbers, last, level, reach, heads, tos, set, body,
-            )?;
-            tos.pop();
+            walk.tos.push(copied(walk.alloc, set)?)?;
+            let first = put_body_rows(walk, keeping, calls, around, set, body)?;
+            walk.tos.pop();
             Ok(first)
         }
         Stmt::Loop(body) => {
-            let mut inner = copied(alloc, set)?;
-            let inside = enter_loop(alloc, tos, set, level, reach, heads, stmt, body)?;
-            let head = copied(alloc, set)?;
-            tos.push(head)?;
-            let first = put_body_rows(
-                alloc,
-                rows,
-                numbers,
-                last,
-                inside.level,
-                &inside.reach,
-                heads,
-                tos,
-                &mut inner,
-                body,
-            )?;
-            tos.pop();
+            let mut inner = copied(walk.alloc, set)?;
+            let inside = enter_loop(walk, set, around, stmt, body)?;
+            let head = copied(walk.alloc, set)?;
+            walk.tos.push(head)?;
+            let within = Around {
+                level: inside.level,
+                reach: &inside.reach,
+            };
+            let first = put_body_rows(walk, keeping, calls, within, &mut inner, body)?;
+            walk.tos.pop();
+            settle_all(keeping, &inner)?;
             Ok(first)
         }
         Stmt::If {
@@ -150,22 +110,25 @@ fn put_stmt_rows(
             then_arm,
             else_arm,
         } => {
-            let mut other = copied(alloc, set)?;
-            tos.push(copied(alloc, set)?)?;
-            let middle = put_body_rows(
-                alloc, rows, numbers, last, level, reach, heads, tos, set, else_arm,
-            )?;
-            let first = put_body_rows(
-                alloc, rows, numbers, middle, level, reach, heads, tos, &mut other, then_arm,
-            )?;
-            tos.pop();
+            let mut other = copied(walk.alloc, set)?;
+            walk.tos.push(copied(walk.alloc, set)?)?;
+            let middle = put_body_rows(walk, keeping, calls, around, set, else_arm)?;
+            settle_all(keeping, set)?;
+            let before = CallsLeft {
+                last: middle,
+                ..calls
+            };
+            let first = put_body_rows(walk, keeping, before, around, &mut other, then_arm)?;
+            walk.tos.pop();
+            settle_all(keeping, &other)?;
             join(set, &other);
             read_operand(set, *cond);
             Ok(first)
         }
         _ => {
-            pass_simple(tos, set, stmt);
-            Ok(last)
+            settle_touched(keeping, set, stmt)?;
+            pass_simple(&walk.tos, set, stmt);
+            Ok(calls.last)
         }
     }
 }

@@ -1,2 +1,5 @@
+pub mod Bodies
+pub mod Counts
+pub mod Grown
 pub mod LayLemmas
 pub mod PutLemmas

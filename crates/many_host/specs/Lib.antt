@@ -1,14 +1,14 @@
-pub use Rattle.pause_host.specs.Answering
-pub use Rattle.pause_host.specs.Moves
-pub use Rattle.pause_host.specs.Programs
-pub use Rattle.pause_host.specs.Settings
-pub use Rattle.pause_host.specs.declared.plan.Plan
-pub use Rattle.pause_host.specs.declared.program.Program
-pub use Rattle.turn_taking.specs.Calls
-pub use Rattle.turn_taking.specs.Laws as ToldLaws
-pub use Rattle.turn_taking.specs.Notes
-pub use Rattle.turn_taking.specs.Standing
-pub use Rattle.turn_taking.specs.Turns
-pub use Rattle.turn_taking.specs.declared.turns.Stage
+pub mod Calls
 pub mod Hosts
 pub mod Laws
+pub mod MailHosts
+pub mod MailStanding
+pub mod MailTurns
+pub mod Notes
+pub mod Saving
+pub mod Standing
+pub mod Telling
+pub mod ToldMail
+pub mod ToldNotes
+pub mod ToldTurns
+pub mod Turns

@@ -8,6 +8,8 @@ use Rattle.memory_vaults.specs.declared.mem_vault.MemVault.{MemVault}
 use Rattle.memory_vaults.specs.declared.mem_sink.SureSink.{SureSink}
 use Rattle.memory_vaults.specs.declared.mem_sink.MemSink.{MemSink}
 use Rattle.memory_vaults.specs.declared.schedule.Schedule.{Schedule}
+use Rattle.memory_vaults.specs.declared.sure_system.SureDisk.{SureDisk}
+use Rattle.memory_vaults.specs.declared.sure_system.SureOut.{SureOut}
 
 -- what a list of files holds under each name: the first file of that name
 abbrev pub files_of : List NamedFile → Files
@@ -55,3 +57,19 @@ sink_schedule sink = sink.schedule
 -- how many have failed
 abbrev pub failed_puts : MemSink → ℕ
 failed_puts sink = sink.faults
+
+-- the files of a SureDisk
+abbrev pub disk_files : SureDisk → Files
+disk_files disk = sure_files disk.vault
+
+-- how many cuts and writes have failed
+abbrev pub failed_changes : SureDisk → ℕ
+failed_changes disk = disk.failed
+
+-- the bytes that a SureOut has taken
+abbrev pub out_bytes : SureOut → List ℕ
+out_bytes out = sure_bytes out.sink
+
+-- how many writes have failed
+abbrev pub failed_writes : SureOut → ℕ
+failed_writes out = out.failed

@@ -1,7 +1,7 @@
 //! `MemVault`: files in memory, whose calls fail where chosen.
 
 ghost use Rattle.std.specs.Prelude.{◌≡◌, ◌≢◌, ◌⊎◌, ◌≤◌, ◌↔◌, ◌++◌, ℕ, List, length, take, Some, None, Contains, option_map, IsSome, IfOk, OnErr, IsErrOf};
-ghost use Rattle.vault_port.specs.Counts.{HasRisen, one_more};
+ghost use Rattle.vault_port.specs.Counts.{one_more};
 ghost use Rattle.vault_port.specs.Files.{Files, bytes_of, IsFetched, ChangesOnly, ChangesAtMost};
 
 use crate::schedule::Schedule;

@@ -3,7 +3,6 @@
 ghost use Rattle.std.specs.Prelude.{◌≡◌, ◌≢◌, ◌⊎◌, ◌≤◌, ◌<◌, ◌↔◌, ◌++◌, [], ◌∷◌, ℕ, List, length, take, Some, None, Contains, option_map, IsTrue, IfOk, IsNone, OnOk, OnErr, IsErrOf};
 ghost use Rattle.std.specs.Prelude.{IsOkUnless, MatchOption, vec_len};
 ghost use Rattle.vault_port.specs.declared.vault.VaultFail.TheVariants.{Memory};
-ghost use Rattle.vault_port.specs.Counts.{HasRisen};
 ghost use Rattle.vault_port.specs.Told.{WhereTold, Becomes};
 ghost use Rattle.vault_port.specs.Files.{Files, bytes_of, IsFetched, ChangesOnly, ChangesAtMost};
 ghost use Rattle.memory_vaults.specs.InMemory.{files_of, IsFirstOf};

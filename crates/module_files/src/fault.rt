@@ -1,28 +1,28 @@
-//! Why a file gave no module.
+//! Why a file's content isn't taken.
 
 use std::alloc::AllocError;
 use thiserror::Error;
-use wasm_reader::ReadFault;
+use transcript::RefusalKind;
 
-/// Why a file gave no module.
-#[derive(Clone, Copy, Debug, PartialEq, Eq, Error)]
-pub enum ModuleFault {
+/// Why a file's content isn't taken.
+#[derive(Debug, Drop, Error)]
+pub enum FileFault {
     #[error("out of memory")]
     Memory,
     #[error("the file could not be read")]
     Read,
     /// What the file holds is refused.
     #[error("the file is refused")]
-    Refused(ReadFault),
+    Refused(RefusalKind),
 }
 
-impl From<AllocError> for ModuleFault {
+impl From<AllocError> for FileFault {
     ghost use Rattle.std.specs.Prelude.{◌≡◌};
-    ghost use Rattle.module_files.specs.declared.fault.ModuleFault.TheVariants.{Memory};
+    ghost use Rattle.module_files.specs.declared.fault.FileFault.TheVariants.{Memory};
 
     ghost from_gives = { λ _ fault. fault ≡ Memory };
 
-    fn from(_error: AllocError) -> ModuleFault {
-        ModuleFault::Memory
+    fn from(_error: AllocError) -> FileFault {
+        FileFault::Memory
     }
 }

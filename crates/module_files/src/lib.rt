@@ -1,14 +1,14 @@
-//! The module in a file, which is fetched in pieces.
+//! The module in a file, valid, or why it isn't taken.
 //!
-//! `read_file` fetches a file into a buffer of 65,536 bytes, and feeds each piece that comes to a reader of modules, so that it never
-//! holds a whole file. It answers the module that the file spells within some bounds, or what the file is refused for.
+//! `read_module` answers the module that a file spells, within bounds; `valid_module` tells whether a module that was read is valid. Why
+//! a file's content isn't taken is one `FileFault` for each command: memory is wanting, the file couldn't be read, or what it holds is
+//! refused, as `transcript` prints it (`specs/Faults.antt`).
 //!
-//! A caller may rely on this: the answer is what `wasm_reader::read` answers for the whole file (`specs/Held.antt`). That a file
-//! can't be read comes before each cause in what it holds, and that it is too long before all others.
+//! - `fault`, `reading`: why a file's content isn't taken; modules in files.
 #![tactic(auto)]
 
 mod fault;
 mod reading;
 
-pub use fault::ModuleFault;
-pub use reading::read_file;
+pub use fault::FileFault;
+pub use reading::{read_module, valid_module};

@@ -9,8 +9,8 @@ use Rattle.std.proofs.lemmas.Slice.Eq.{bytes_eq-Decides}
 use Rattle.wa_types.specs.declared.syntax.Export.{Export}
 use Rattle.wa_types.specs.Syntax.{Module}
 use Rattle.wa_types.specs.Runtime.{runtime_names}
-use Rattle.wa_model.specs.Quiet.{FreeOfNames}
-use Rattle.asyncify_runtime.specs.Reserved.{is_runtime_name, reserved_import, reserved_export, first_reserved, reserved_at}
+use Rattle.run_theory.specs.Quiet.{FreeOfNames}
+use Rattle.local_spill.specs.Reserved.{is_runtime_name, reserved_import, reserved_export, first_reserved, reserved_at}
 
 not_named : (name : List ℕ) (names : List (List ℕ)) → list_any (λ own. bytes_eq name own) names ≡ false → Contains names name → ⊥
 not_named name [] h c = let lt = c.1 in absurd (omega arith)

@@ -1,6 +1,9 @@
-pub use Rattle.live_rewrite.proofs.FitsBy
-pub use Rattle.live_rewrite.proofs.ToldLemmas
-pub mod EmitLemmas
+pub mod BareLemmas
+pub mod EntryLemmas
 pub mod FreeNames
+pub mod InnerModule
+pub mod LayoutLemmas
+pub mod Parts
 pub mod Spaces
+pub mod TakenFuncs
 pub mod WholeLemmas

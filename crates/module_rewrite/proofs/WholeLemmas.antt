@@ -10,18 +10,21 @@ use Rattle.wa_types.specs.Runtime.{func_space, global_space}
 use Rattle.wa_types.specs.Sizes.{StrictSizeRule}
 use Rattle.wa_types.specs.Syntax.{Func, Module}
 use Rattle.flat_laws.proofs.FlatModules.{dropped_at}
-use Rattle.live_rewrite.specs.Whole.{NonePasses}
-use Rattle.live_rewrite.specs.Sizes.{FewWritten}
-use Rattle.live_rewrite.proofs.EmittedBy.{sort_of}
-use Rattle.live_rewrite.specs.EmittedAs.{AreEmitted}
-use Rattle.asyncify_runtime.specs.Reserved.{reserved_at}
-use Rattle.module_rewrite.specs.Emitting.{Emits}
-use Rattle.module_rewrite.specs.Whole.{Asyncifies}
-use Rattle.module_rewrite.specs.declared.fault.RewriteFault.{RewriteFault}
-use Rattle.module_rewrite.specs.declared.fault.RewriteFault.TheVariants.{Memory, Locals, Reserved}
+use Rattle.flatten.specs.Whole.{NonePasses}
+use Rattle.emitted_form.specs.Sizes.{FewWritten}
+use Rattle.emitted_form.proofs.EmittedBy.{sort_of}
+use Rattle.emitted_form.specs.EmittedAs.{AreEmitted}
+use Rattle.local_spill.specs.Reserved.{reserved_at}
+use Rattle.flatten.specs.declared.fault.FlatFault.{FlatFault}
+use Rattle.flatten.specs.declared.fault.FlatFault.TheVariants.{Memory, Locals}
+use Rattle.module_rewrite.specs.ByteFaults as B
+use Rattle.module_rewrite.specs.Faults.{of_flat}
+use Rattle.module_rewrite.specs.Taking.{IsRefused}
+use Rattle.module_rewrite.specs.Whole.{Refuses}
+use Rattle.module_rewrite.specs.WholeBytes.{EmitsModule}
 use Rattle.module_rewrite.proofs.Spaces.{funcs_counted, globals_counted}
 
-passes_at : (m : Module) (ws : List Bool) (fs : List Func) (i : ℕ) (f : Func) → NonePasses m ws fs → slice_get fs i ≡ Some f → is_told (slice_get ws i) ≡ true → Count m f ≤ 50000
+pub passes_at : (m : Module) (ws : List Bool) (fs : List Func) (i : ℕ) (f : Func) → NonePasses m ws fs → slice_get fs i ≡ Some f → is_told (slice_get ws i) ≡ true → Count m f ≤ 50000
 passes_at m [] fs i f h e t = cc
 passes_at m (w ∷ ws) [] i f h e t = cc
 passes_at m (true ∷ ws) (g ∷ fs) zero f h e t = let z : g ≡ f = cc in subst (λ k. Count m k ≤ 50000) z h.0
@@ -74,8 +77,12 @@ pub none_is : {X : Type 0} (o : Option X) → ((x : X) → o ≡ Some x → ⊥)
 none_is None h = refl
 none_is (Some x) h = absurd (h x refl)
 
--- a fault of emitting is one of rewriting
-pub emits_fault : (m : Module) (s : Settings) (which : List Bool) (e : RewriteFault) → reserved_at m ≡ None → TellsMayPause m s which → Emits m s which (Err e) → Asyncifies m s (Err e)
-emits_fault m s which Memory free tells h = tt
-emits_fault m s which (Locals func count) free tells h = record { free = free; which = which; tells = tells; first = h }
-emits_fault m s which (Reserved at) free tells h = absurd h
+-- a function with too many locals is a fault of rewriting
+pub taking_fault : (m : Module) (s : Settings) (which : List Bool) (e : FlatFault) → reserved_at m ≡ None → TellsMayPause m s which → IsRefused m which e → Refuses m s (of_flat e)
+taking_fault m s which Memory free tells h = tt
+taking_fault m s which (Locals func count) free tells h = record { free = free; which = which; tells = tells; first = h }
+
+-- .. and of writing its bytes
+pub bytes_fault : (m : Module) (s : Settings) (which : List Bool) (e : FlatFault) → reserved_at m ≡ None → TellsMayPause m s which → IsRefused m which e → EmitsModule m s (Err (B.of_flat e))
+bytes_fault m s which Memory free tells h = tt
+bytes_fault m s which (Locals func count) free tells h = record { free = free; which = which; tells = tells; first = h }

@@ -1,6 +1,6 @@
 -- Faults of flattening, as those of rewriting.
-use Rattle.live_rewrite.specs.FlatFault.{FlatFault}
-use Rattle.live_rewrite.specs.FlatFault.TheVariants as F
+use Rattle.flatten.specs.declared.fault.FlatFault.{FlatFault}
+use Rattle.flatten.specs.declared.fault.FlatFault.TheVariants as F
 use Rattle.module_rewrite.specs.declared.fault.RewriteFault.{RewriteFault}
 use Rattle.module_rewrite.specs.declared.fault.RewriteFault.TheVariants.{Memory, Locals}
 

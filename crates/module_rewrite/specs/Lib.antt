@@ -1,7 +1,8 @@
-pub use Rattle.live_rewrite.specs.FlatFault
-pub use Rattle.live_rewrite.specs.Flattened
-pub use Rattle.live_rewrite.specs.Frames
-pub use Rattle.live_rewrite.specs.Whole as FlattenWhole
-pub mod Emitting
+pub mod Bare
+pub mod ByteFaults
+pub mod Entries
 pub mod Faults
+pub mod Layouts
+pub mod Taking
 pub mod Whole
+pub mod WholeBytes

@@ -1,7 +1,7 @@
 //! Why a module wasn't rewritten.
 
-use asyncify_runtime::ReservedAt;
-use live_rewrite::FlatFault;
+use func_rewrite::FlatFault;
+use local_spill::ReservedAt;
 use std::alloc::AllocError;
 use thiserror::Error;
 

@@ -20,7 +20,7 @@ use Rattle.wa_model.specs.Protocol.{Exports, exports_of, Phase, is_running, unwi
 use Rattle.wa_model.specs.Protocol.{starting, busy, calling, aside, entering, over, held_given, held_ends, held_pauses, held_tested, held_asked, busy_step, aside_back, aside_step}
 use Rattle.wa_model.specs.Protocol.{busy_enters, held_next, aside_called, held_start, protocol, held_begun, held_continued}
 use Rattle.norm_laws.specs.Bare.{one_by_one, bare}
-use Rattle.norm_laws.specs.NormLaws.{BareSteps, BareBlocking, BareProtocol}
+use Rattle.norm_laws.specs.Norms.{BareSteps, BareBlocking, BareProtocol}
 use Rattle.norm_laws.proofs.BareSteps.{entered_same, types_same, defined_same, stack_same, step_same}
 
 -- ---- machines with the same moves
@@ -46,7 +46,7 @@ module _ (m : Module) (plan : Plan) where
 
   tested_same : (k import : ℕ) (args : List Value) (w : Asker) (l : Left) (a : Answer) (o : Option End) → tested (bare m) k import args w l a o ≡ tested m k import args w l a o
   tested_same k import args w l a (Some e) = ap (λ st. ends_at_call k (call_note import args (store_at w) st None) e) (stack_at_same w)
-  tested_same k import args w l a None = ap (λ st. go_on k (call_note import args (store_at w) st (pause_of a.ticks)) a (poked (store_at w) a.pokes) l w) (stack_at_same w)
+  tested_same k import args w l a None = ap (λ st. go_on k (call_note import args (store_at w) st (pause_of a.ticks)) a.said (poked (store_at w) a.pokes) l w) (stack_at_same w)
 
   asked_same : (k import : ℕ) (args : List Value) (w : Asker) (l : Left) (os : List Outcome) → asked (bare m) plan k import args w l os ≡ asked m plan k import args w l os
   asked_same k import args w l [] = ap (λ st. goes k (call_note import args (store_at w) st None ∷ []) (halts (store_at w))) (stack_at_same w)
@@ -91,7 +91,7 @@ module _ (m : Module) (plan : Plan) where
     held_tested_same : (k import : ℕ) (args : List Value) (w : Asker) (l : Left) (a : Answer) (o : Option End) (pause : Option ℕ)
         → held_tested (bare m) x plan k import args w l a o pause ≡ held_tested m x plan k import args w l a o pause
     held_tested_same k import args w l a (Some e) pause = ap (λ st. held_ends k (call_note import args (store_at w) st None) e) (stack_at_same w)
-    held_tested_same k import args w l a None None = ap (λ st. held_given k (call_note import args (store_at w) st None) a (poked (store_at w) a.pokes) l w) (stack_at_same w)
+    held_tested_same k import args w l a None None = ap (λ st. held_given k (call_note import args (store_at w) st None) a.said (poked (store_at w) a.pokes) l w) (stack_at_same w)
     held_tested_same k import args w l a None (Some ticks) = ap (λ st. held_pauses x plan k (call_note import args (store_at w) st (Some ticks)) import a l w) (stack_at_same w)
 
     held_asked_same : (k import : ℕ) (args : List Value) (w : Asker) (l : Left) (os : List Outcome) → held_asked (bare m) x plan k import args w l os ≡ held_asked m x plan k import args w l os

@@ -9,9 +9,9 @@ use Rattle.wa_types.specs.declared.values.Trap.TheVariants.{StackExhausted, Type
 use Rattle.wa_types.specs.Syntax.{Plain, basic, local_get, local_set, local_tee, br, br_if, br_table, return, unreachable, call, call_indirect, a_block, a_loop, Code, done, plain, nest}
 use Rattle.wa_types.specs.Syntax.{branch, FuncType, Func, Module}
 use Rattle.wa_types.specs.Modules.{imported, imported_func, func_imports, func_type_at, type_at, or_empty, defined_at}
-use Rattle.wa_model.specs.Store.{Store}
+use Rattle.wa_model.specs.Store.{choose, Store}
 use Rattle.wa_model.specs.Configuration.{Label, block_label, loop_label, Activation, Configuration, running, waiting, place_of, suspended, stack_of}
-use Rattle.wa_model.specs.Step.{Next, steps, traps, result_count, leave, jump, finish, with_number, choose, zero_of, entered, invoke, param_count, same_func_type, through, step_plain, step_at, step}
+use Rattle.wa_model.specs.Step.{Next, steps, traps, result_count, leave, jump, finish, with_number, zero_of, entered, invoke, param_count, same_func_type, through, step_plain, step_at, step}
 use Rattle.norm_laws.specs.Bare.{one_by_one, bare}
 use Rattle.norm_laws.proofs.Locals.{one_by_one_keeps}
 

@@ -8,7 +8,7 @@ use Rattle.wa_types.specs.declared.values.ValType.TheVariants.{I32, I64}
 use Rattle.wa_types.specs.declared.syntax.Run.{Run}
 use Rattle.wa_types.specs.Encoding.{same_type, run_onto, merged}
 use Rattle.wa_types.specs.Modules.{declared_locals}
-use Rattle.wa_model.specs.FlatFits.{one_run}
+use Rattle.run_theory.specs.FlatFits.{one_run}
 
 same_is : (t u : ValType) → same_type t u ≡ true → t ≡ u
 same_is I32 I32 e = refl

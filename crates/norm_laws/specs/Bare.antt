@@ -2,7 +2,7 @@
 use Rattle.std.specs.Prelude.{[], map}
 use Rattle.wa_types.specs.Syntax.{Func, Module}
 use Rattle.wa_types.specs.Modules.{declared_locals}
-use Rattle.wa_model.specs.FlatFits.{one_run}
+use Rattle.run_theory.specs.FlatFits.{one_run}
 
 -- a function whose locals are declared one by one
 abbrev pub one_by_one : Func → Func

@@ -1,2 +1,2 @@
 pub mod Bare
-pub mod NormLaws
+pub mod Norms

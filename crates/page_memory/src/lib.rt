@@ -2,7 +2,7 @@
 //!
 //! Contracts see a `Pages` as a `Memory` of `wa_types`: the list of its bytes and its declared maximum. The one
 //! law: each call answers what the definition of the same deed says (`number_at` for `load`, `with_number` for
-//! `store`, `with_piece` for `write`, `grown` for `grow`), and a call that refuses leaves the memory as it was.
+//! `store`, `with_piece` for `write`, `copied` for `copy`, `filled_with` for `fill`, `grown` for `grow`), and a call that refuses leaves the memory as it was.
 //!
 //! A caller may rely on whole pages, 1,024 at most, from `size`. Addresses are taken without wrapping, and only
 //! `new` and `grow` take memory of the system. Opcodes are none of this crate's matter: what a load makes of
@@ -11,4 +11,4 @@
 
 mod pages;
 
-pub use pages::Pages;
+pub use pages::{Pages, page_bound};

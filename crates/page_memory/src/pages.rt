@@ -3,7 +3,7 @@
 ghost use Rattle.std.specs.Prelude.{◌≡◌, ◌+◌, ◌*◌, ◌^◌, ◌<◌, ◌≤◌, ◌⊎◌, ◌↔◌, IsSome, IfOk, IfSome, IfNone, OnSome, OnErr, length, replicate, Some, None};
 ghost use Rattle.std.specs.Bool.{OnTrue, OnFalse};
 ghost use Rattle.std.specs.Option.{SomeIff};
-ghost use Rattle.wa_types.specs.Memory.{page_size, pages_of, number_at, bytes_at, with_piece, with_number, page_bound, grown};
+ghost use Rattle.wa_types.specs.Memory.{IsWholePages, page_size, pages_of, number_at, bytes_at, with_piece, with_number, copied, filled_with, page_bound, grown};
 
 use std::alloc::{AllocError, Global};
 use std::marker::Model;
@@ -41,6 +41,16 @@ impl Pages {
     {
         let mut bytes = Vec::new(alloc);
         bytes.resize(min as usize * PAGE_SIZE, 0)?;
+        Ok(Pages { bytes, max })
+    }
+
+    /// A memory of these bytes, which are whole pages, and whose type declares the maximum `max`, in pages.
+    pub fn from_slice(alloc: Global, bytes: &[u8], max: Option<u32>) -> Result<Pages, AllocError>
+        requires { IsWholePages bytes.now }
+        ensures bytes { IfOk result (λ m. m.bytes ≡ bytes.now) }
+        ensures max { IfOk result (λ m. m.max ≡ max) }
+    {
+        let bytes = Vec::from_slice(alloc, bytes)?;
         Ok(Pages { bytes, max })
     }
 
@@ -109,6 +119,41 @@ impl Pages {
         true
     }
 
+    /// Copies `len` bytes to one address from another, as they stood before. False exactly where either range
+    /// reaches past the end, and then nothing changes (standard, version 2.0, section 4.4.7).
+    pub fn copy(&mut self, to: u64, from: u64, len: u64) -> bool
+        ensures ok { OnTrue result (copied self.old.bytes to from len ≡ Some self.new.bytes) }
+        ensures past_end { OnFalse result (copied self.old.bytes to from len ≡ None) }
+        ensures unchanged { OnFalse result (self.new ≡ self.old) }
+        ensures max { self.new.max ≡ self.old.max }
+    {
+        let len = len as usize;
+        let Some(source) = self.place(from, len) else {
+            return false;
+        };
+        let Some(target) = self.place(to, len) else {
+            return false;
+        };
+        self.bytes.copy_within(source..source + len, target);
+        true
+    }
+
+    /// Writes one byte all over `len` bytes at an address. False exactly where they reach past the end, and
+    /// then nothing changes (standard, version 2.0, section 4.4.7).
+    pub fn fill(&mut self, to: u64, byte: u8, len: u64) -> bool
+        ensures ok { OnTrue result (filled_with self.old.bytes to byte len ≡ Some self.new.bytes) }
+        ensures past_end { OnFalse result (filled_with self.old.bytes to byte len ≡ None) }
+        ensures unchanged { OnFalse result (self.new ≡ self.old) }
+        ensures max { self.new.max ≡ self.old.max }
+    {
+        let len = len as usize;
+        let Some(at) = self.place(to, len) else {
+            return false;
+        };
+        self.bytes[at..at + len].fill(byte);
+        true
+    }
+
     /// Appends `by` pages of zeros, and gives the size before, in pages. None exactly where the new size would
     /// pass the declared maximum or 1,024 pages. After None, and without memory, nothing has changed (standard,
     /// section 4.4.4.4).
@@ -133,10 +178,7 @@ impl Pages {
     fn bound(&self) -> u32
         ensures { result ≡ page_bound self.now.max }
     {
-        match self.max {
-            Some(most) => most.min(MOST_PAGES),
-            None => MOST_PAGES,
-        }
+        page_bound(self.max)
     }
 
     /// The index of the first of `len` bytes at an address, where all of them lie inside.
@@ -160,5 +202,15 @@ impl Pages {
     {
         let at = self.place(addr, N)?;
         self.bytes[at..].first_chunk()
+    }
+}
+
+/// The greatest number of pages that a memory may grow to whose type declares this maximum.
+pub fn page_bound(max: Option<u32>) -> u32
+    ensures { result ≡ page_bound max }
+{
+    match max {
+        Some(most) => most.min(MOST_PAGES),
+        None => MOST_PAGES,
     }
 }

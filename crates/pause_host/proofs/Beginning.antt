@@ -12,36 +12,41 @@ use Rattle.wa_types.specs.declared.syntax.Limits.{Limits}
 use Rattle.wa_types.specs.Syntax.{FuncType, Module}
 use Rattle.wa_types.specs.Memory.{page_size}
 use Rattle.wa_types.specs.Modules.{imported, imported_func, imported_global, all_memories, func_sorts, or_empty, type_at, func_type_at}
+use Rattle.wa_types.specs.Sizes.{SizeRule}
 use Rattle.wa_types.specs.Validity.{Valid}
 use Rattle.wa_types.specs.View.{module_of}
 use Rattle.wa_model.specs.declared.answers.Area.{Area}
 use Rattle.wa_model.specs.Plan.{Entry}
+use Rattle.wa_model.specs.View.{answer_line_of}
 use Rattle.wa_model.specs.Instantiation.{least_of, opening}
-use Rattle.wa_model.specs.Fitting.{types_of, global_types}
+use Rattle.run_theory.specs.Fitting.{types_of, global_types}
 use Rattle.wa_model.specs.Blocking.{Left, all_left}
 use Rattle.wa_model.specs.Protocol.{held_begun}
-use Rattle.wa_model.specs.World as W
-use Rattle.wa_model.specs.World.{Look}
-use Rattle.wa_model.proofs.FittingNames.{type_small}
-use Rattle.wa_model.proofs.FittingOpenings.{openings_fit}
-use Rattle.wa_model.proofs.NamedModules.{valid_instance}
+use Rattle.world_model.specs.World as W
+use Rattle.world_model.specs.World.{Look}
+use Rattle.run_theory.proofs.FittingNames.{type_small}
+use Rattle.run_theory.proofs.FittingOpenings.{openings_fit}
+use Rattle.run_theory.proofs.NamedModules.{valid_instance}
 use Rattle.run_laws.proofs.SpotRuns.{start_takes_none}
 use Rattle.run_laws.specs.FittingStates.{HeldFits}
 use Rattle.run_laws.proofs.ProtocolStopping.{begun_fits}
 use Rattle.run_laws.proofs.Stopping.{start_there}
-use Rattle.host_setup.specs.SetUp.{is_area_in, set_up}
-use Rattle.host_turns.specs.Places.{Place, stands}
-use Rattle.host_turns.specs.Stories.{opened, IsAt}
-use Rattle.host_turns.proofs.Tellings.{nothing_told_yet}
-use Rattle.host_stages.specs.declared.stages.HostImport.{HostImport}
-use Rattle.host_stages.specs.declared.stages.Setting.{Setting}
-use Rattle.host_stages.specs.Views.{entry_of, left_of, lines_in}
-use Rattle.host_stages.specs.Moves.{IsSetting, PlaceFits, HasShortPokes}
+use Rattle.host_setup.specs.SetUp.{NamedEntry, is_area_in, set_up}
+use Rattle.host_setup.specs.Views as S
+use Rattle.host_laws.specs.Places.{Place, stands}
+use Rattle.host_laws.specs.Stories.{opened, IsAt}
+use Rattle.host_laws.proofs.Tellings.{nothing_told_yet}
+use Rattle.pause_host.specs.declared.stages.HostImport.{HostImport}
+use Rattle.pause_host.specs.declared.stages.Setting.{Setting}
+use Rattle.pause_host.specs.Views.{entry_of, left_of, lines_in}
+use Rattle.pause_host.specs.Moves.{IsSetting, PlaceFits, HasShortPokes}
+use Rattle.pause_host.specs.Holding.{PlaceHolds}
+use Rattle.pause_host.proofs.Holding.{begun_holds}
 use Rattle.pause_host.specs.declared.plan.Plan.{Plan}
 use Rattle.pause_host.specs.declared.program.Program.{Program}
 use Rattle.pause_host.specs.declared.program.State.TheVariants.{Fresh}
-use Rattle.plan_parts.specs.Settings.{calls_of, MakesSetting}
-use Rattle.pause_host.specs.Programs.{source_of, named_entries, IsPlan, BindsAs, world_program, before, place_of, RunsCode, FollowsAt, Follows}
+use Rattle.pause_host.specs.Settings.{calls_of, MakesSetting}
+use Rattle.pause_host.specs.Programs.{source_of, named_entries, IsPlan, BindsAs, world_program, before, is_at_pause, place_of, RunsCode, FollowsAt, Follows}
 use Rattle.pause_host.proofs.Making.{SetUpFine, set_up_fine}
 
 both : (a b : Bool) → (a && b) ≡ true → (a ≡ true) × (b ≡ true)
@@ -59,6 +64,19 @@ has_memory [] area h =
     let no : ⊥ = omega arith in
     absurd no
 has_memory (l ∷ ls) area h = lt-ltb 0 (length (l ∷ ls)) (omega arith)
+
+-- it has room for its words, and lies inside the declared pages
+pub lawful_area : (pages : ℕ) (area : Area) → is_area_in pages area ≡ true → (8 ≤ area.len) × (area.at + area.len ≤ pages * page_size)
+lawful_area pages area h =
+    let two = both _ (nat_le (area.at + area.len) (pages * page_size)) h in
+    let one = both (area.at % 4 == 0) (nat_le 8 area.len) two.0 in
+    (leb-true 8 area.len one.1, leb-true (area.at + area.len) (pages * page_size) two.1)
+
+-- a call for each entry at most
+pub calls_few : (es : List NamedEntry) (fs : List ℕ) → length (calls_of es fs) ≤ length es
+calls_few [] fs = omega arith
+calls_few (e ∷ es) [] = omega arith
+calls_few (e ∷ es) (f ∷ fs) = let rest = calls_few es fs in omega arith
 
 -- one result at most, as an option
 as_option : (rs : List ValType) → length rs ≤ 1 → rs ≡ option_to_list (slice_get rs 0)
@@ -105,13 +123,14 @@ module _ (x : Plan) (funcs : List ℕ) (looks : List Look) (binds : List (Option
   fine : SetUpFine p v x.area (named_entries x) funcs
   fine = set_up_fine p v x.area (named_entries x) funcs up
 
-  setting_is : (setting : Setting) → MakesSetting p x.listed x.binds x.area x.steps setting → IsSetting w setting
+  pub setting_is : (setting : Setting) → MakesSetting p x.listed x.binds x.area x.steps setting → IsSetting w setting
   setting_is setting m = record {
     valid = v;
     typed = fine.exports;
     memory = has_memory (all_memories p) x.area fine.area_fits;
     exports = m.exports;
     area = sym m.area_is;
+    others = sym m.no_others;
     listed = ap (option_map (λ (l : Vec Bool). l.items)) (sym m.listed_is);
     steps = sym m.steps_are;
     names = sym m.names;
@@ -127,13 +146,14 @@ module _ (x : Plan) (funcs : List ℕ) (looks : List Look) (binds : List (Option
       (begun_fits p v w.plan fine.exports (all_left w.plan []) (opening p x.globals.items) p.start 0 fine.entries (λ s o. openings_fit p x.globals.items s v plan.globals o)
       (λ f o. (start_takes_none p f v o, start_there p f p.start (valid_instance p v).start o))).1
 
-  pub follows : (program : Program) → module_of program.valid.now ≡ p → program.globals ≡ x.globals → MakesSetting p x.listed x.binds x.area x.steps program.setting
+  pub follows : SizeRule p → (program : Program) → module_of program.valid.now ≡ p → program.globals ≡ x.globals → MakesSetting p x.listed x.binds x.area x.steps program.setting
       → program.left.number ≡ 0 → map entry_of program.left.entries.items ≡ calls_of (named_entries x) funcs
-      → program.answers.items ≡ x.answers.items → program.steps_left ≡ x.steps → program.state ≡ Fresh → Follows w [] [] program
-  follows program code globals made number entries answers steps fresh = record {
+      → program.left.answers.items ≡ x.answers.items → program.given ≡ length x.answers.items → program.steps_left ≡ x.steps → program.state ≡ Fresh → Follows w [] [] program
+  follows sizes program code globals made number entries answers given steps fresh = record {
     at = subst (λ st. FollowsAt w [] [] program (place_of program st)) (sym fresh) at;
     code =
         subst (RunsCode w.source) (sym fresh) tt;
+    paused = ap is_at_pause fresh;
   }
     where
       left : left_of program.left ≡ all_left w.plan []
@@ -145,13 +165,24 @@ module _ (x : Plan) (funcs : List ℕ) (looks : List Look) (binds : List (Option
           ∙ ap (λ l. begin p l program.globals.items) left
           ∙ ap (λ g. begin p (all_left w.plan []) g.items) globals
 
+      begun_there : PlaceHolds w (stands (opened w.source w.plan).events (opened w.source w.plan).last)
+      begun_there =
+          let room = lawful_area (least_of (all_memories p)) x.area fine.area_fits in
+          let few = calls_few (named_entries x) funcs in
+          let many : length (named_entries x) ≡ length x.entries.items = length-map x.entries.items S.entry_of in
+          begun_holds p w.plan (all_left w.plan []) x.globals.items p.start room.0 room.1 (omega (arith, few, many, plan.entries))
+
       at : FollowsAt w [] [] program (place_of program Fresh)
       at = record {
         source = sym code;
+        sizes = sizes;
         setting = setting_is program.setting made;
         globals = subst (λ g. types_of g.items ≡ global_types (imported imported_global p)) (sym globals) plan.globals;
         pokes = subst (λ xs. All HasShortPokes (lines_in xs)) (sym answers) plan.pokes;
+        given = given ∙ sym (length-map x.answers.items answer_line_of);
         fits = subst (PlaceFits w) (sym place_is) (begun (all_left w.plan []) refl);
+        holds = subst (PlaceHolds w) (sym place_is) begun_there;
+        few_steps = plan.few_steps;
         told = subst (IsAt w [] [] program.steps_left) (sym place_is)
             (subst (λ n. IsAt w [] [] n (stands (opened w.source w.plan).events (opened w.source w.plan).last)) (sym steps) (nothing_told_yet w));
       }

@@ -5,7 +5,7 @@ use Rattle.std.specs.Option.{unwrap_or}
 use Rattle.std.proofs.lemmas.List.{length-map}
 use Rattle.wa_types.specs.Syntax.{Module}
 use Rattle.wa_types.specs.Modules.{func_imports, imported, imported_func}
-use Rattle.plan_parts.specs.Settings.{none_bound}
+use Rattle.pause_host.specs.Settings.{none_bound}
 
 pub none_for_each : (p : Module) → length (none_bound p) ≡ func_imports p
 none_for_each p = let none : ℕ → Option (List ℕ) = λ sort. None in length-map (imported imported_func p) none

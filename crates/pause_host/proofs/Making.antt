@@ -2,10 +2,12 @@
 use Rattle.std.proofs.Common.{◌≡◌, ◌≤◌, ◌<◌, ℕ, zero, suc, ◌+◌, ◌++◌, List, [], ◌∷◌, length, map, Option, Some, None, Ok, Bool, true, false, cond, not, All, nat_le, refl, sym, ap, ◌∙◌, subst, arith}
 use Rattle.std.specs.Prelude.{◌&&◌, nat_lt, slice_get, codes, position}
 use Rattle.std.specs.List.{find, filter_map, cons_option, list_all, prefix_len, position_or_len}
-use Rattle.std.specs.Option.{is_none, unwrap_or}
+use Rattle.std.specs.Option.{is_none, option_or, unwrap_or}
 use Rattle.std.proofs.lemmas.Bool.{leb-true, ltb-false, ltb-true}
+use Rattle.std.proofs.lemmas.List.{length-map}
 use Rattle.std.proofs.lemmas.List.Elements.{All-nil, All-cons}
 use Rattle.std.proofs.lemmas.List.Folds.{list_all-append}
+use Rattle.std.specs.Option.{option_to_list}
 use Rattle.wa_types.specs.declared.values.ValType.{ValType}
 use Rattle.wa_types.specs.declared.values.ValType.TheVariants.{I32}
 use Rattle.wa_types.specs.declared.values.Value.{Value}
@@ -16,19 +18,16 @@ use Rattle.wa_types.specs.Syntax.{FuncType, Func, Module}
 use Rattle.wa_types.specs.Encoding.{same_type}
 use Rattle.wa_types.specs.Typing.{type_of}
 use Rattle.wa_types.specs.Modules.{func_imports, func_sorts, func_type_at, defined_at}
-use Rattle.wa_types.specs.Validity.{Valid, all_below, exported, same_space, same_name, start_indices}
+use Rattle.wa_types.specs.Validity.{Valid, all_below, exported, same_space, same_name}
 use Rattle.wa_ops.specs.Operate.{are_of}
 use Rattle.wa_model.specs.declared.answers.Area.{Area}
-use Rattle.wa_model.specs.ScriptLines.{or_else}
 use Rattle.wa_model.specs.Step.{same_func_type}
-use Rattle.wa_model.specs.Fitting.{types_of}
+use Rattle.run_theory.specs.Fitting.{types_of}
 use Rattle.wa_model.specs.Protocol.{exported_as, index_of}
-use Rattle.wa_model.proofs.FittingNames.{same_true, func_types_true, not_defined}
+use Rattle.run_theory.proofs.FittingNames.{same_true, func_types_true, not_defined}
 use Rattle.run_laws.specs.FittingStates.{Callable, EntryTyped, ExportsTyped}
-use Rattle.host_setup.specs.SetUp.{NamedEntry, Fault, no_export, entry_missing, entry_is_import, arg_types, Needed, module_fault, first_fault, func_in, func_named, is_func, is_defined_as}
-use Rattle.host_setup.specs.SetUp.{is_there, needed, is_five, entry_func, is_imported, are_args, fault_at, first_false, entry_funcs, have_args, all_told, unless_fault, set_up, area_bad}
-use Rattle.host_setup.specs.SetUp.{is_area_in, least_pages}
-use Rattle.plan_parts.specs.Settings.{calls_of}
+use Rattle.host_setup.specs.SetUp.{NamedEntry, Fault, no_export, entry_missing, entry_is_import, arg_types, Needed, module_fault, first_fault, func_in, func_named, is_func, is_defined_as, is_there, needed, is_five, entry_func, is_imported, are_args, fault_at, first_false, entry_funcs, have_args, all_told, unless_fault, set_up, area_bad, is_area_in, least_pages}
+use Rattle.pause_host.specs.Settings.{calls_of}
 
 both : (a b : Bool) → (a && b) ≡ true → (a ≡ true) × (b ≡ true)
 both true true h = (refl, refl)
@@ -75,7 +74,7 @@ module _ (p : Module) (v : Valid p) where
       let n : ℕ = length (func_sorts p) in
       let low : ℕ → Bool = λ k. nat_lt k n in
       let all = v.funcs in
-      named_below n name p.exports x (fronts (exported Sp.Func p) (start_indices p.start) _ all) e
+      named_below n name p.exports x (fronts (exported Sp.Func p) (option_to_list p.start) _ all) e
     where
       fronts : (a b c : List ℕ) → all_below (length (func_sorts p)) (a ++ b ++ c) ≡ true → all_below (length (func_sorts p)) a ≡ true
       fronts a b c h =
@@ -123,7 +122,7 @@ module _ (p : Module) (v : Valid p) where
   no_fault_at fault None e = refl
   no_fault_at fault (Some i) e = cc
 
-  neither : (a b : Option Fault) → or_else a b ≡ None → (a ≡ None) × (b ≡ None)
+  neither : (a b : Option Fault) → option_or a b ≡ None → (a ≡ None) × (b ≡ None)
   neither None b e = (refl, e)
   neither (Some f) b e = cc
 
@@ -231,3 +230,9 @@ module _ (p : Module) (v : Valid p) where
                 (none_passes (is_imported (func_imports p)) (entry_funcs p es) (no_fault_at entry_is_import (position (is_imported (func_imports p)) (entry_funcs p es)) four.0))
                 (none_passes (λ (t : Bool). not t) (have_args p es) (no_fault_at arg_types (first_false (have_args p es)) four.1)));
           }
+
+  -- one function for each entry
+  pub funcs_many : (area : Area) (es : List NamedEntry) (funcs : List ℕ) → set_up p area es ≡ Ok funcs → length funcs ≡ length es
+  funcs_many area es funcs e =
+      ap (λ (fs : List ℕ). length fs) (set_up_fine area es funcs e).funcs_are ∙ length-map (entry_funcs p es) (λ (f : Option ℕ). unwrap_or f 0)
+      ∙ length-map es (λ (y : NamedEntry). entry_func p y.name)

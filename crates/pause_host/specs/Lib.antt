@@ -1,4 +1,11 @@
-pub use Rattle.plan_parts.specs.Settings
-pub use Rattle.host_moves.specs.Answering
-pub use Rattle.host_stages.specs.Moves
+pub mod FromPlans
+pub mod Holding
+pub mod Hosting
+pub mod Mailing
+pub mod Moves
+pub mod Parting
 pub mod Programs
+pub mod Settings
+pub mod Suspending
+pub mod Thawing
+pub mod Views

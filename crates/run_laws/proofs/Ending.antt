@@ -7,25 +7,25 @@ use Rattle.wa_types.specs.Base.{Base}
 use Rattle.wa_types.specs.Syntax.{Func, Module}
 use Rattle.wa_types.specs.Modules.{func_imports, func_type_at, defined_at}
 use Rattle.wa_types.specs.Frames.{Suspended, Room, Fit}
+use Rattle.wa_model.specs.declared.answers.Said.{Said}
+use Rattle.wa_model.specs.declared.answers.Said.TheVariants as SV
 use Rattle.wa_model.specs.declared.events.End.{End}
 use Rattle.wa_model.specs.declared.events.End.TheVariants.{Broken}
-use Rattle.wa_model.specs.Outside.{Answer, Event, called, answered, paused, returned, ended, shown as was_shown}
+use Rattle.wa_model.specs.Outside.{Answer, Event, called, answered, paused, parked, returned, ended, shown as was_shown}
 use Rattle.wa_model.specs.Machine.{Turn, stops, goes, Ran, after, still, pay, run_with, run}
 use Rattle.wa_model.specs.Store.{Store}
+use Rattle.wa_model.specs.Configuration.{Configuration}
 use Rattle.wa_model.specs.Step.{Next, steps, asks, returns, traps, stuck, step}
 use Rattle.wa_model.specs.Plan.{Entry, Plan, Outcome, given, refused}
 use Rattle.wa_model.specs.Instantiation.{Opening, fails_as, opens, opening}
-use Rattle.wa_model.specs.Blocking.{Note, note, call_note, value_of_results, fault_of, pause_of, poked, done_notes, Task, the_start, an_entry, Left, with_outcomes, Asker, inside, outermost}
-use Rattle.wa_model.specs.Blocking.{store_at, stack_at, in_start, State, between, begins, runs, halts, on_to, next_entry, task_back, go_on, tested, asked, by_step, enters, enter_next}
-use Rattle.wa_model.specs.Blocking.{start_called, blocking, all_left, begun, Blocking}
-use Rattle.wa_model.specs.Protocol.{Exports, exports_of, Phase, is_running, unwinds, rewinds, Then, give_zero, test_unwound, pause_there, call_again, test_rewound, give_answer, Held, free}
-use Rattle.wa_model.specs.Protocol.{starting, busy, calling, aside, entering, over, held_on, held_back, held_given, held_pauses, held_tested, held_asked, busy_step, is_state, aside_back}
-use Rattle.wa_model.specs.Protocol.{aside_step, busy_enters, held_next, aside_called, held_start, protocol, held_begun, Protocol}
-use Rattle.wa_model.specs.Expected.{pause_note, trap_note, shown_at, shown}
+use Rattle.wa_model.specs.Blocking.{Note, note, call_note, value_of_results, fault_of, pause_of, poked, done_notes, Task, the_start, an_entry, Left, with_outcomes, Asker, inside, outermost, store_at, stack_at, in_start, State, between, begins, runs, halts, on_to, next_entry, task_back, go_on, tested, asked, by_step, enters, enter_next, start_called, blocking, all_left, begun, Blocking}
+use Rattle.wa_model.specs.Protocol.{Exports, exports_of, Phase, is_running, unwinds, rewinds, Then, give_zero, test_unwound, pause_there, call_again, test_rewound, give_answer, Held, free, starting, busy, calling, aside, entering, over, held_on, held_back, held_given, held_pauses, held_resumed, held_tested, held_asked, busy_step, is_state, aside_back, aside_step, busy_enters, held_next, aside_called, held_start, protocol, held_begun, Protocol}
+use Rattle.wa_model.specs.Expected.{pause_note, trap_note}
+use Rattle.run_theory.specs.Shown.{shown_within_at as shown_at, shown_within as shown}
 use Rattle.wa_model.specs.Behaves.{expected_notes}
-use Rattle.wa_model.specs.World.{is_end}
-use Rattle.stack_laws.specs.Standing.{PauseTold}
-use Rattle.stack_laws.proofs.StandingPauses.{pauses_told}
+use Rattle.world_model.specs.World.{is_end}
+use Rattle.run_laws.specs.Standing.{PauseTold}
+use Rattle.run_laws.proofs.StandingPauses.{pauses_told}
 use Rattle.run_laws.specs.Growing.{EndIsLast, BlockingEndIsLast, ExpectedEndIsLast, ProtocolEndIsLast}
 
 -- No note but the last is an end; and if that is one, this holds.
@@ -122,13 +122,14 @@ module _ (m : Module) (plan : Plan) where
   back_ends k (an_entry e) results s l =
       front_ends (StateOver (on_to s (next_entry l) l.entries)) (note (returned l.number (value_of_results results)) s) (done_notes s l.entries) refl (done_ends s (next_entry l) l.entries)
 
-  go_on_ends : (k : ℕ) (x : Note) (a : Answer) (s : Store) (l : Left) (who : Asker) → is_end x.event ≡ false → Ends (go_on k x a s l who)
-  go_on_ends k x a s l (inside task c) e = (e, λ f. cc)
-  go_on_ends k x a s l (outermost old) e = (e, front_ends (StateOver (on_to s l l.entries)) (note (answered a.value) s) (done_notes s l.entries) refl (done_ends s l l.entries))
+  go_on_ends : (k : ℕ) (x : Note) (said : Said) (s : Store) (l : Left) (who : Asker) → is_end x.event ≡ false → Ends (go_on k x said s l who)
+  go_on_ends k x (SV.Value v) s l (inside task c) e = (e, λ f. cc)
+  go_on_ends k x (SV.Value v) s l (outermost old) e = (e, front_ends (StateOver (on_to s l l.entries)) (note (answered (SV.Value v)) s) (done_notes s l.entries) refl (done_ends s l l.entries))
+  go_on_ends k x SV.Trap s l who e = (e, (refl, λ f. tt))
 
   tested_ends : (k import : ℕ) (args : List Value) (who : Asker) (l : Left) (a : Answer) (o : Option End) → Ends (tested m k import args who l a o)
   tested_ends k import args who l a (Some e) = (refl, λ f. tt)
-  tested_ends k import args who l a None = go_on_ends k (call_note import args (store_at who) (stack_at m who) (pause_of a.ticks)) a (poked (store_at who) a.pokes) l who refl
+  tested_ends k import args who l a None = go_on_ends k (call_note import args (store_at who) (stack_at m who) (pause_of a.ticks)) a.said (poked (store_at who) a.pokes) l who refl
 
   asked_ends : (k import : ℕ) (args : List Value) (who : Asker) (l : Left) (os : List Outcome) → Ends (asked m plan k import args who l os)
   asked_ends k import args who l [] = λ e. tt
@@ -193,10 +194,11 @@ rest_ends x (y ∷ es) h = h.1
 call_no_end : (plan : Plan) (e : Event) (pause : Option ℕ) (ticks : ℕ) → PauseTold plan e pause → pause ≡ Some ticks → is_end e ≡ false
 call_no_end plan e None ticks told z = cc
 call_no_end plan (called c) (Some t) ticks told z = refl
-call_no_end plan (answered value) (Some t) ticks told z = absurd told
+call_no_end plan (answered said) (Some t) ticks told z = absurd told
 call_no_end plan (paused t' used) (Some t) ticks told z = absurd told
 call_no_end plan (returned i value) (Some t) ticks told z = absurd told
 call_no_end plan (ended how) (Some t) ticks told z = absurd told
+call_no_end plan (parked used) (Some t) ticks told z = absurd told
 call_no_end plan (was_shown at bytes) (Some t) ticks told z = absurd told
 
 module _ (plan : Plan) (room fit : List Suspended → ℕ) (len : ℕ) where
@@ -273,9 +275,10 @@ module _ (p : Module) (x : Exports) (plan : Plan) where
   back_held k (an_entry e) results s l =
       held_front (HeldOver (held_on s (next_entry l) l.entries)) (note (returned l.number (value_of_results results)) s) (done_notes s l.entries) refl (held_done s (next_entry l) l.entries)
 
-  given_held : (k : ℕ) (y : Note) (a : Answer) (s : Store) (l : Left) (who : Asker) → is_end y.event ≡ false → HeldEnds (held_given k y a s l who)
-  given_held k y a s l (inside task c) e = (e, λ f. cc)
-  given_held k y a s l (outermost old) e = (e, held_front (HeldOver (held_on s l l.entries)) (note (answered a.value) s) (done_notes s l.entries) refl (held_done s l l.entries))
+  given_held : (k : ℕ) (y : Note) (said : Said) (s : Store) (l : Left) (who : Asker) → is_end y.event ≡ false → HeldEnds (held_given k y said s l who)
+  given_held k y (SV.Value v) s l (inside task c) e = (e, λ f. cc)
+  given_held k y (SV.Value v) s l (outermost old) e = (e, held_front (HeldOver (held_on s l l.entries)) (note (answered (SV.Value v)) s) (done_notes s l.entries) refl (held_done s l l.entries))
+  given_held k y SV.Trap s l who e = (e, (refl, λ f. tt))
 
   pauses_held : (k : ℕ) (y : Note) (import : ℕ) (a : Answer) (l : Left) (who : Asker) → is_end y.event ≡ false → HeldEnds (held_pauses x plan k y import a l who)
   pauses_held k y import a l (inside (an_entry e) c) h = λ f. let bad : false ≡ true = sym h ∙ f in cc
@@ -284,7 +287,7 @@ module _ (p : Module) (x : Exports) (plan : Plan) where
 
   tested_held : (k import : ℕ) (args : List Value) (who : Asker) (l : Left) (a : Answer) (o : Option End) (pause : Option ℕ) → HeldEnds (held_tested p x plan k import args who l a o pause)
   tested_held k import args who l a (Some e) pause = (refl, λ f. tt)
-  tested_held k import args who l a None None = given_held k (call_note import args (store_at who) (stack_at p who) None) a (poked (store_at who) a.pokes) l who refl
+  tested_held k import args who l a None None = given_held k (call_note import args (store_at who) (stack_at p who) None) a.said (poked (store_at who) a.pokes) l who refl
   tested_held k import args who l a None (Some ticks) = pauses_held k (call_note import args (store_at who) (stack_at p who) (Some ticks)) import a l who refl
 
   asked_held : (k import : ℕ) (args : List Value) (who : Asker) (l : Left) (os : List Outcome) → HeldEnds (held_asked p x plan k import args who l os)
@@ -314,6 +317,10 @@ module _ (p : Module) (x : Exports) (plan : Plan) where
   busy_held (unwinds e i a) l stuck = tt
   busy_held (rewinds e i a sp) l stuck = tt
 
+  resumed_held : (k : ℕ) (e : Entry) (said : Said) (at_pause : Store) (c : Configuration) (l : Left) (s : Store) → HeldEnds (held_resumed k e said at_pause c l s)
+  resumed_held k e (SV.Value v) at_pause c l s = λ f. cc
+  resumed_held k e SV.Trap at_pause c l s = (refl, λ f. tt)
+
   back_aside : (k : ℕ) (ph : Phase) (th : Then) (l : Left) (results : List Value) (s : Store) → HeldEnds (aside_back p x plan k ph th l results s)
   back_aside k (unwinds e i a) (give_zero c) l results s = tt
   back_aside k (unwinds e i a) test_unwound l results s = by_state (is_state 1 results)
@@ -328,7 +335,7 @@ module _ (p : Module) (x : Exports) (plan : Plan) where
       by_state : (b : Bool) → HeldEnds (if b then goes k [] (calling (rewinds e i a sp) s x.stop_rewind [] (give_answer c) l) else goes k (note (ended (Broken 4)) s ∷ []) (over s))
       by_state true = tt
       by_state false = λ f. tt
-  back_aside k (rewinds e i a sp) (give_answer c) l results s = λ f. cc
+  back_aside k (rewinds e i a sp) (give_answer c) l results s = resumed_held k e a.said sp c l (poked s a.pokes)
   back_aside k (is_running task) th l results s = tt
   back_aside k (unwinds e i a) call_again l results s = tt
   back_aside k (unwinds e i a) (test_rewound c) l results s = tt

@@ -15,8 +15,8 @@ use Rattle.wa_types.specs.Modules.{imported, imported_func, func_imports, define
 use Rattle.wa_types.specs.Validity.{Valid, same_name, all_differ}
 use Rattle.wa_types.specs.Runtime.{func_space, global_space, runtime_funcs, runtime_exports, runtime_names, with_runtime}
 use Rattle.wa_model.specs.Protocol.{index_of, exported_as}
-use Rattle.wa_model.specs.Quiet.{FreeOfNames}
-use Rattle.wa_model.proofs.Runs.{lt_false}
+use Rattle.run_theory.specs.Quiet.{FreeOfNames}
+use Rattle.run_theory.proofs.Runs.{lt_false}
 use Rattle.run_laws.specs.RuntimeParts.{RuntimeExported, RuntimeIsExported, RewrittenIsExported}
 
 same_is : (xs ys : List ℕ) → same_name xs ys ≡ true → xs ≡ ys
@@ -131,4 +131,4 @@ parts_exported m p imports exports runtime valid =
     exported m p (take (length m.funcs) p.funcs) (exports_free m p exports valid) same (taken_length (length m.funcs) p.funcs _ _ behind) funcs (exports ∙ grown_exports m)
 
 pub rewritten_exported : RewrittenIsExported
-rewritten_exported m s p r = parts_exported m p r.imports r.exports r.runtime r.valid_rewritten
+rewritten_exported m s p r = let parts = r.parts in parts_exported m p parts.imports parts.exports parts.runtime parts.valid_rewritten

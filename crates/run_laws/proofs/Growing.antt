@@ -7,10 +7,11 @@ use Rattle.wa_types.specs.Syntax.{Module}
 use Rattle.wa_types.specs.Frames.{Suspended, Room, Fit}
 use Rattle.wa_model.specs.Plan.{Plan, Outcome}
 use Rattle.wa_model.specs.Blocking.{Note, State, blocking, Blocking}
-use Rattle.wa_model.specs.Expected.{pause_note, trap_note, shown_at, shown}
+use Rattle.wa_model.specs.Expected.{pause_note, trap_note}
+use Rattle.run_theory.specs.Shown.{shown_within_at as shown_at, shown_within as shown}
 use Rattle.wa_model.specs.Behaves.{IsPrefix, PauseNumbered}
-use Rattle.wa_model.specs.Laws.{start_of}
-use Rattle.wa_model.proofs.Runs.{prefix_on, prefix_of_longer}
+use Rattle.run_theory.specs.DeterminedRuns.{start_of}
+use Rattle.run_theory.proofs.Runs.{prefix_on, prefix_of_longer}
 use Rattle.run_laws.specs.Growing.{ExpectedGrow, ComparedLower, PausesLower}
 
 pub runs_grow : (m : Module) (plan : Plan) (os : List Outcome) (n more : ℕ) → IsPrefix (Blocking m plan os n).events (Blocking m plan os (n + more)).events

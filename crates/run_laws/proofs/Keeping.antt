@@ -1,7 +1,8 @@
 -- Reductions that leave the original's store alone, and what runs show along them.
-use Rattle.std.proofs.Common.{◌≡◌, ℕ, zero, suc, ◌+◌, ◌-◌, ◌<◌, ◌≤◌, List, [], ◌∷◌, ◌++◌, Option, Some, None, Result, Ok, Err, Bool, true, false, refl, sym, ap, ◌∙◌, subst, length, take}
+use Rattle.std.proofs.Common.{◌≡◌, ℕ, zero, suc, ◌+◌, ◌-◌, ◌<◌, ◌≤◌, List, [], ◌∷◌, ◌++◌, Option, Some, None, Result, Ok, Err, Bool, true, false, refl, sym, ap, ◌∙◌, subst, length, take, replicate}
 use Rattle.std.proofs.Common.{drop, reverse, arith, ⊎_elim}
-use Rattle.std.specs.Prelude.{nat_lt, nat_le, if◌then◌else◌, slice_get, slice_set, unwrap_or}
+use Rattle.std.specs.Prelude.{◌%◌, ◌&&◌, nat_lt, nat_le, if◌then◌else◌, slice_get, slice_set, unwrap_or}
+use Rattle.std.proofs.lemmas.List.{length-replicate}
 use Rattle.std.proofs.lemmas.Bool.{cases_lt, and_parts}
 use Rattle.wa_types.specs.declared.values.Value.{Value}
 use Rattle.wa_types.specs.declared.values.Value.TheVariants as V
@@ -9,27 +10,27 @@ use Rattle.wa_types.specs.declared.values.Trap.{Trap}
 use Rattle.wa_types.specs.declared.values.Trap.TheVariants.{StackExhausted, TypeMismatch}
 use Rattle.wa_types.specs.Accesses.{AccessRow, load_row, store_row}
 use Rattle.wa_types.specs.Encoding.{same_type}
-use Rattle.wa_types.specs.Memory.{bytes_of, bytes_at, overwritten, number_at, with_number as number_put}
+use Rattle.wa_types.specs.Memory.{bytes_of, bytes_at, overwritten, number_at, with_piece, with_number as number_put, copied, filled_with}
 use Rattle.wa_types.specs.Typing.{type_of}
-use Rattle.wa_types.specs.Syntax.{Basic, nop, drop as a_drop, select, const, num, global_get, global_set, load, store, memory_size, memory_grow, basic, local_get, local_set, local_tee, br}
+use Rattle.wa_types.specs.Syntax.{Basic, nop, drop as a_drop, select, const, num, global_get, global_set, load, store, memory_size, memory_grow, memory_copy, memory_fill, basic, local_get, local_set, local_tee, br}
 use Rattle.wa_types.specs.Syntax.{br_if, br_table, return, unreachable, call, call_indirect, a_block, a_loop, Code, done, plain, nest, branch, Func, Module}
 use Rattle.wa_types.specs.Modules.{func_imports, func_type_at, type_at, defined_at}
-use Rattle.wa_types.proofs.MemoryLemmas.{length-bytes_of, length-overwritten, bytes_at-overwritten_below, bytes_at-overwritten_behind}
+use Rattle.wa_types.proofs.MemoryLemmas.{length-bytes_of, length-bytes_at, length-overwritten, bytes_at-overwritten_below, bytes_at-overwritten_behind}
 use Rattle.wa_model.specs.Operate.{operate, number_of}
 use Rattle.wa_model.specs.declared.answers.Area.{Area}
 use Rattle.wa_model.specs.Machine.{Turn, goes, Ran, after, run, Leads, stays, moves}
-use Rattle.wa_model.specs.Store.{Store, Did, works, fails, lacks, takes, act, computed, load_at, loaded, store_at, stored, width_of, access_of}
+use Rattle.wa_model.specs.Store.{choose, Store, Did, works, fails, lacks, takes, extra_cost, act, computed, load_at, loaded, store_at, stored, width_of, range_of}
 use Rattle.wa_model.specs.Configuration.{Label, block_label, loop_label, Activation, Configuration, running, waiting}
-use Rattle.wa_model.specs.Step.{Next, steps, asks, returns, traps, stuck, result_count, leave, jump, finish, did, with_top, with_number, choose, arity_of, entered, invoke, param_count}
+use Rattle.wa_model.specs.Step.{Next, steps, asks, returns, traps, stuck, result_count, leave, jump, finish, did, with_top, with_number, arity_of, entered, invoke, param_count}
 use Rattle.wa_model.specs.Step.{same_func_type, through, memory_max, step_at, step}
 use Rattle.wa_model.specs.Plan.{Plan}
 use Rattle.wa_model.specs.Blocking.{Note, Left, State, runs, by_step, blocking, store_of}
-use Rattle.wa_model.specs.Keeping.{in_area, keeps_basic, keeps_code, keeps}
+use Rattle.run_theory.specs.Keeping.{in_area, keeps_basic, keeps_code, keeps}
 use Rattle.run_laws.specs.Stretches.{KeptWhileBusy, KeptAside, KeptBlocking}
 use Rattle.wa_model.specs.Protocol.{Exports, Phase, is_running, unwinds, rewinds, busy, aside, busy_step, aside_step, Held, protocol, store_held}
-use Rattle.wa_model.specs.Alone.{alone_next, alone}
+use Rattle.run_theory.specs.Alone.{alone_next, alone}
 use Rattle.wa_model.specs.Expected.{SameEnd}
-use Rattle.wa_model.proofs.Runs.{one_move, too_dear}
+use Rattle.run_theory.proofs.Runs.{one_move, too_dear}
 
 -- ---- lists
 
@@ -90,31 +91,48 @@ module _ (g : ℕ) (area : Area) where
   load_keeps s place None = tt
   load_keeps s place (Some row) = loaded_keeps s row (number_at s.memory place (width_of row))
 
-  put_keeps : (s : Store) (place w n : ℕ) → area.at ≤ place → place + w ≤ area.at + area.len → DidKeeps s (stored s (number_put s.memory place w n))
-  put_keeps s place w n lo hi = by_room (nat_le (place + length (bytes_of w n)) (length s.memory)) refl
+  piece_keeps : (s : Store) (place : ℕ) (piece : List ℕ) → area.at ≤ place → place + length piece ≤ area.at + area.len → DidKeeps s (stored s (with_piece s.memory place piece))
+  piece_keeps s place piece lo hi = by_room (nat_le (place + length piece) (length s.memory)) refl
     where
-      piece : List ℕ
-      piece = bytes_of w n
-
-      by_room : (b : Bool) → nat_le (place + length (bytes_of w n)) (length s.memory) ≡ b → DidKeeps s (stored s (if b then Some (overwritten s.memory place (bytes_of w n)) else None))
+      by_room : (b : Bool) → nat_le (place + length piece) (length s.memory) ≡ b → DidKeeps s (stored s (if b then Some (overwritten s.memory place piece) else None))
       by_room true e =
-          let fits = le_of (place + length (bytes_of w n)) (length s.memory) e in
-          let len = length-bytes_of w n in
+          let fits = le_of (place + length piece) (length s.memory) e in
           record {
             globals_same = λ x h. refl;
-            size = sym (length-overwritten s.memory place (bytes_of w n) fits);
+            size = sym (length-overwritten s.memory place piece fits);
             below =
                 λ x h. got_of s.memory x
-                ∙ ap head (sym (bytes_at-overwritten_below s.memory place (bytes_of w n) x 1 (omega arith) fits))
-                ∙ sym (got_of (overwritten s.memory place (bytes_of w n)) x);
+                ∙ ap head (sym (bytes_at-overwritten_below s.memory place piece x 1 (omega arith) fits))
+                ∙ sym (got_of (overwritten s.memory place piece) x);
             above =
                 λ x h. got_of s.memory x
-                ∙ ap head (sym (bytes_at-overwritten_behind s.memory place (bytes_of w n) x 1 (omega arith) fits))
-                ∙ sym (got_of (overwritten s.memory place (bytes_of w n)) x);
+                ∙ ap head (sym (bytes_at-overwritten_behind s.memory place piece x 1 (omega arith) fits))
+                ∙ sym (got_of (overwritten s.memory place piece) x);
           }
       by_room false e = tt
 
-  store_keeps : (s : Store) (place : ℕ) (v : Value) (o : Option AccessRow) → in_area area (access_of true place o) ≡ true → DidKeeps s (store_at s place v o)
+  put_keeps : (s : Store) (place w n : ℕ) → area.at ≤ place → place + w ≤ area.at + area.len → DidKeeps s (stored s (number_put s.memory place w n))
+  put_keeps s place w n lo hi = let len = length-bytes_of w n in piece_keeps s place (bytes_of w n) lo (omega (arith, len, hi))
+
+  copy_keeps : (s : Store) (to from n : ℕ) → nat_le area.at to && nat_le (to + n) (area.at + area.len) ≡ true → DidKeeps s (stored s (copied s.memory to from n))
+  copy_keeps s to from n h = by_source (nat_le (from + n) (length s.memory)) refl
+    where
+      by_source : (b : Bool) → nat_le (from + n) (length s.memory) ≡ b → DidKeeps s (stored s (if b then with_piece s.memory to (bytes_at s.memory from n) else None))
+      by_source true e =
+          let len = length-bytes_at s.memory from n (le_of (from + n) (length s.memory) e) in
+          let q = and_parts (nat_le area.at to) (nat_le (to + n) (area.at + area.len)) h in
+          let hi = le_of (to + n) (area.at + area.len) q.1 in
+          piece_keeps s to (bytes_at s.memory from n) (le_of area.at to q.0) (omega (arith, len, hi))
+      by_source false e = tt
+
+  fill_keeps : (s : Store) (at byte n : ℕ) → nat_le area.at at && nat_le (at + n) (area.at + area.len) ≡ true → DidKeeps s (stored s (filled_with s.memory at byte n))
+  fill_keeps s at byte n h =
+      let len = length-replicate n byte in
+      let q = and_parts (nat_le area.at at) (nat_le (at + n) (area.at + area.len)) h in
+      let hi = le_of (at + n) (area.at + area.len) q.1 in
+      piece_keeps s at (replicate n byte) (le_of area.at at q.0) (omega (arith, len, hi))
+
+  store_keeps : (s : Store) (place : ℕ) (v : Value) (o : Option AccessRow) → in_area area (range_of place o) ≡ true → DidKeeps s (store_at s place v o)
   store_keeps s place v None h = tt
   store_keeps s place v (Some row) h = by_type (same_type row.ty (type_of v))
     where
@@ -138,34 +156,19 @@ module _ (g : ℕ) (area : Area) where
   act_keeps most (store op align offset) s (v ∷ V.I32 a ∷ []) h = store_keeps s (a + offset) v (store_row op) h
   act_keeps most memory_size s [] h = same_refl g area s
   act_keeps most memory_grow s (V.I32 k ∷ []) h = cc
+  act_keeps most memory_copy s (V.I32 n ∷ V.I32 from ∷ V.I32 to ∷ []) h = copy_keeps s to from n h
+  act_keeps most memory_fill s (V.I32 n ∷ V.I32 v ∷ V.I32 at ∷ []) h = fill_keeps s at (v % 256) n h
   act_keeps most _ s _ h = tt
-
-  -- the operands below those that it takes make no difference
-  cut_keeps : (b : Basic) (ops : List Value) → keeps_basic g area b ops ≡ true → keeps_basic g area b (take (takes b) ops) ≡ true
-  cut_keeps nop ops h = refl
-  cut_keeps a_drop ops h = refl
-  cut_keeps select ops h = refl
-  cut_keeps (const v) ops h = refl
-  cut_keeps (num op) ops h = refl
-  cut_keeps (global_get x) ops h = refl
-  cut_keeps (global_set x) ops h = h
-  cut_keeps (load op align offset) ops h = refl
-  cut_keeps (store op align offset) [] h = h
-  cut_keeps (store op align offset) (v ∷ []) h = h
-  cut_keeps (store op align offset) (v ∷ V.I32 a ∷ ops) h = h
-  cut_keeps (store op align offset) (v ∷ V.I64 a ∷ ops) h = h
-  cut_keeps memory_size ops h = refl
-  cut_keeps memory_grow ops h = h
 
   leaves_keep : (k : ℕ) (s : Store) (ops : List Value) (arity : ℕ) (under : List Activation) → NextKeeps s (leave k s ops arity under)
   leaves_keep k s ops arity [] = same_refl g area s
   leaves_keep k s ops arity (a ∷ under) = same_refl g area s
 
-  did_keeps : (fn : ℕ) (under : List Activation) (ls : List Value) (labels : List Label) (rest : Code) (ops : List Value) (s : Store) (d : Did)
-      → DidKeeps s d → NextKeeps s (did fn under ls labels rest s ops d)
-  did_keeps fn under ls labels rest ops s (works s' results) h = h
-  did_keeps fn under ls labels rest ops s (fails trap) h = same_refl g area s
-  did_keeps fn under ls labels rest ops s lacks h = tt
+  did_keeps : (k fn : ℕ) (under : List Activation) (ls : List Value) (labels : List Label) (rest : Code) (ops : List Value) (s : Store) (d : Did)
+      → DidKeeps s d → NextKeeps s (did k fn under ls labels rest s ops d)
+  did_keeps k fn under ls labels rest ops s (works s' results) h = h
+  did_keeps k fn under ls labels rest ops s (fails trap) h = same_refl g area s
+  did_keeps k fn under ls labels rest ops s lacks h = tt
 
   top_keeps : (s : Store) (ops : List Value) (on : Value → List Value → Next) → ((v : Value) (below : List Value) → NextKeeps s (on v below)) → NextKeeps s (with_top ops on)
   top_keeps s [] on h = tt
@@ -224,7 +227,7 @@ module _ (g : ℕ) (area : Area) where
     pub step_keeps : (ls ops : List Value) (labels : List Label) (code : Code) → keeps_code g area ops code ≡ true → NextKeeps s (step_at p s fn under ls ops labels code)
     step_keeps ls ops labels done h = finishes_keep ls ops labels
     step_keeps ls ops labels (plain (basic b) rest) h =
-        did_keeps fn under ls labels rest (drop (takes b) ops) s (act (memory_max p) b s (take (takes b) ops)) (act_keeps (memory_max p) b s (take (takes b) ops) (cut_keeps b ops h))
+        did_keeps (extra_cost b (take (takes b) ops)) fn under ls labels rest (drop (takes b) ops) s (act (memory_max p) b s (take (takes b) ops)) (act_keeps (memory_max p) b s (take (takes b) ops) h)
     step_keeps ls ops labels (plain (local_get x) rest) h = same_refl g area s
     step_keeps ls ops labels (plain (local_set x) rest) h = top_keeps s ops _ (λ v below. same_refl g area s)
     step_keeps ls ops labels (plain (local_tee x) rest) h = top_keeps s ops _ (λ v below. same_refl g area s)

@@ -19,7 +19,7 @@ use Rattle.wa_types.specs.Runtime.{func_space, global_space, runtime_types, runt
 use Rattle.wa_types.specs.Validity.{all_below, Valid}
 use Rattle.wa_model.specs.Plan.{Entry, AreLawful, EntryFits}
 use Rattle.wa_model.specs.Instantiation.{least_of}
-use Rattle.wa_model.proofs.FittingNames.{defined_type}
+use Rattle.run_theory.proofs.FittingNames.{defined_type}
 use Rattle.run_laws.specs.RuntimeParts.{ShowsParts, PlansFitParts}
 
 got_first : {X : Type 0} (xs ys : List X) (i : ℕ) (x : X) → slice_get xs i ≡ Some x → slice_get (xs ++ ys) i ≡ Some x

@@ -9,30 +9,30 @@ use Rattle.wa_types.specs.declared.values.Value.{Value}
 use Rattle.wa_types.specs.Syntax.{Func, Module}
 use Rattle.wa_types.specs.Validity.{Valid}
 use Rattle.wa_types.specs.Modules.{imported, imported_global, func_imports, func_sorts, func_type_at, defined_at}
+use Rattle.wa_types.specs.declared.values.Trap.TheVariants.{Import}
+use Rattle.wa_model.specs.declared.answers.Said.{Said}
+use Rattle.wa_model.specs.declared.answers.Said.TheVariants as S
 use Rattle.wa_model.specs.declared.events.End.{End}
-use Rattle.wa_model.specs.declared.events.End.TheVariants.{Broken}
+use Rattle.wa_model.specs.declared.events.End.TheVariants.{Broken, Trapped}
 use Rattle.wa_model.specs.Outside.{Answer, answered, returned, ended, paused}
 use Rattle.wa_model.specs.Machine.{Turn, stops, goes}
 use Rattle.wa_model.specs.Store.{Store}
+use Rattle.wa_model.specs.Configuration.{Configuration}
 use Rattle.wa_model.specs.Step.{Next, steps, asks, returns, traps, stuck, step}
 use Rattle.wa_model.specs.Plan.{Entry, EntryFits, Plan, Outcome, given, refused}
 use Rattle.wa_model.specs.Instantiation.{Opening, fails_as, opens, opening}
-use Rattle.wa_model.specs.Blocking.{Note, note, no_store, value_of_results, answers, fault_of, pause_of, poked, done_notes, Task, the_start, an_entry, Left, with_outcomes, Asker, inside}
-use Rattle.wa_model.specs.Blocking.{outermost, store_at, in_start, stack_at, call_note, next_entry, all_left}
-use Rattle.wa_model.specs.Protocol.{Exports, exports_of, Phase, is_running, unwinds, rewinds, Then, give_zero, test_unwound, pause_there, call_again, test_rewound, give_answer, Held, free}
-use Rattle.wa_model.specs.Protocol.{starting, busy, calling, aside, entering, over, with_words, used_of, broken, held_on, held_back, held_given, held_pauses, held_tested, held_asked}
-use Rattle.wa_model.specs.Protocol.{trap_end, busy_step, is_state, zeros_of, answer_note, aside_back, aside_step, busy_enters, held_next, aside_called, held_start, protocol, held_started}
-use Rattle.wa_model.specs.Protocol.{held_begun, held_continued, Protocol}
-use Rattle.wa_model.specs.Fitting.{types_of, results_of, global_types, StoreFits, CallersFit, WaitingFits, NextFits}
-use Rattle.wa_model.proofs.Invariants.{TurnKeeps, RanKeeps, after_keeps, leads_keeps}
-use Rattle.wa_model.proofs.FittingNames.{not_defined, results_are, zeros_typed}
-use Rattle.wa_model.proofs.FittingSteps.{steps_fit}
-use Rattle.wa_model.proofs.FittingRuns.{calls_fit, answers_fit}
-use Rattle.wa_model.proofs.FittingOpenings.{openings_fit}
-use Rattle.wa_model.proofs.NamedModules.{valid_instance}
-use Rattle.stack_laws.proofs.SpotRuns.{answer_typed, or_else_first, test_passed, listed_typed, start_takes_none}
-use Rattle.stack_laws.proofs.StandingPauses.{fault_outside}
-use Rattle.run_laws.specs.FittingStates.{Callable, EntryTyped, LeftTyped, SomeLeft, TaskTyped, AnswerTyped, PhaseTyped, ThenFits, HeldFits, ExportsTyped}
+use Rattle.wa_model.specs.Blocking.{Note, note, no_store, value_of_results, fault_of, pause_of, poked, done_notes, import_traps, Task, the_start, an_entry, Left, with_outcomes, Asker, inside, outermost, store_at, in_start, stack_at, call_note, next_entry, all_left}
+use Rattle.wa_model.specs.Protocol.{Exports, exports_of, Phase, is_running, unwinds, rewinds, Then, give_zero, test_unwound, pause_there, call_again, test_rewound, give_answer, Held, free, starting, busy, calling, aside, entering, over, with_words, used_of, broken, held_on, held_back, held_given, held_pauses, held_resumed, held_tested, held_asked, trap_end, busy_step, is_state, zeros_of, answer_note, aside_back, aside_step, busy_enters, held_next, aside_called, held_start, protocol, held_started, held_begun, held_continued, Protocol}
+use Rattle.run_theory.specs.Fitting.{types_of, results_of, global_types, StoreFits, CallersFit, WaitingFits, NextFits}
+use Rattle.run_theory.proofs.Invariants.{TurnKeeps, RanKeeps, after_keeps, leads_keeps}
+use Rattle.run_theory.proofs.FittingNames.{not_defined, results_are, zeros_typed}
+use Rattle.run_theory.proofs.FittingSteps.{steps_fit}
+use Rattle.run_theory.proofs.FittingRuns.{calls_fit, answers_fit}
+use Rattle.run_theory.proofs.FittingOpenings.{openings_fit}
+use Rattle.run_theory.proofs.NamedModules.{valid_instance}
+use Rattle.run_laws.proofs.SpotRuns.{said_typed, or_else_first, listed_typed, start_takes_none}
+use Rattle.run_laws.proofs.StandingPauses.{fault_outside}
+use Rattle.run_laws.specs.FittingStates.{Callable, EntryTyped, LeftTyped, SomeLeft, TaskTyped, SaidTyped, PhaseTyped, Waits, ThenFits, HeldFits, ExportsTyped}
 use Rattle.run_laws.specs.Stopping.{ProtocolStatesStop, ProtocolStatesStay, ProtocolRunsFit, ProtocolStopsOver}
 use Rattle.run_laws.proofs.Stopping.{start_there}
 
@@ -51,7 +51,7 @@ module _ (p : Module) (v : Valid p) (plan : Plan) (ex : ExportsTyped p) where
   TurnFits t = TurnKeeps (protocol p x plan) (HeldFits p) AnyNote t
 
   abbrev AskerFits : ℕ → Asker → Type 0
-  AskerFits import (inside task c) = TaskTyped p task × (outs : List ValType) × WaitingFits p outs import c
+  AskerFits import (inside task c) = TaskTyped p task × (outs : List ValType) × WaitingFits p outs import c × (import < func_imports p)
   AskerFits import (outermost s) = StoreFits p s
 
   on_fits : (s : Store) (l : Left) (es : List Entry) → es ≡ l.entries → StoreFits p s → LeftTyped p l → HeldFits p (held_on s l es)
@@ -75,27 +75,28 @@ module _ (p : Module) (v : Valid p) (plan : Plan) (ex : ExportsTyped p) where
   broken_fits : (k rule : ℕ) (s : Store) → TurnFits (broken k rule s)
   broken_fits k rule s = (any_notes (note (ended (Broken rule)) s ∷ []), tt)
 
-  given_fits : (k import : ℕ) (called : Note) (a : Answer) (s : Store) (l : Left) (who : Asker) → StoreFits p s → AnswerTyped p import a
-      → LeftTyped p l → AskerFits import who → TurnFits (held_given k called a s l who)
-  given_fits k import called a s l (inside task c) so e h w =
-      (any_notes (called ∷ note (answered a.value) s ∷ []), (w.1, answers_fit p w.1 c s (option_to_list a.value) so (subst (λ ts. CallersFit p w.1 ts (c.here ∷ c.under)) (sym e) w.2.waits), w.0, h))
-  given_fits k import called a s l (outermost old) so e h w = (any_notes (called ∷ note (answered a.value) s ∷ done_notes s l.entries), on_fits s l l.entries refl so h)
+  given_fits : (k import : ℕ) (called : Note) (said : Said) (s : Store) (l : Left) (who : Asker) → StoreFits p s → SaidTyped p import said
+      → LeftTyped p l → AskerFits import who → TurnFits (held_given k called said s l who)
+  given_fits k import called (S.Value value) s l (inside task c) so e h w =
+      (any_notes (called ∷ note (answered (S.Value value)) s ∷ []), (w.1, answers_fit p w.1 c s (option_to_list value) so (subst (λ ts. CallersFit p w.1 ts (c.here ∷ c.under)) (sym e) w.2.waits), w.0, h))
+  given_fits k import called (S.Value value) s l (outermost old) so e h w = (any_notes (called ∷ note (answered (S.Value value)) s ∷ done_notes s l.entries), on_fits s l l.entries refl so h)
+  given_fits k import called S.Trap s l who so e h w = (any_notes (called ∷ import_traps s), tt)
 
-  pauses_fit : (k import : ℕ) (called : Note) (a : Answer) (l : Left) (who : Asker) → AnswerTyped p import a → LeftTyped p l → AskerFits import who
+  pauses_fit : (k import : ℕ) (called : Note) (a : Answer) (l : Left) (who : Asker) → SaidTyped p import a.said → LeftTyped p l → AskerFits import who
       → TurnFits (held_pauses x plan k called import a l who)
   pauses_fit k import called a l (inside (an_entry e) c) typed h w =
-      (any_notes (called ∷ []), (words_fit c.store w.2.store, ex.start_unwind, (w.0, typed), (w.1, w.2.waits), h))
+      (any_notes (called ∷ []), (words_fit c.store w.2.store, ex.start_unwind, (w.0, typed, w.3), (w.1, w.2.waits), h))
   pauses_fit k import called a l (inside the_start c) typed h w = tt
   pauses_fit k import called a l (outermost s) typed h w = tt
 
   tested_fits : (k import : ℕ) (args : List Value) (who : Asker) (l : Left) (a : Answer) (o : Option End) (pause : Option ℕ) → LeftTyped p l → AskerFits import who
-      → (o ≡ None → AnswerTyped p import a) → TurnFits (held_tested p x plan k import args who l a o pause)
+      → (o ≡ None → SaidTyped p import a.said) → TurnFits (held_tested p x plan k import args who l a o pause)
   tested_fits k import args who l a (Some e) pause h w typed = (any_notes (called_at ∷ note (ended e) called_at.store ∷ []), tt)
     where
       called_at : Note
       called_at = call_note import args (store_at who) (stack_at p who) None
   tested_fits k import args who l a None None h w typed =
-      given_fits k import (call_note import args (store_at who) (stack_at p who) None) a (poked (store_at who) a.pokes) l who (poked_fits (store_at who) a (asker_store import who w)) (typed refl) h w
+      given_fits k import (call_note import args (store_at who) (stack_at p who) None) a.said (poked (store_at who) a.pokes) l who (poked_fits (store_at who) a (asker_store import who w)) (typed refl) h w
   tested_fits k import args who l a None (Some ticks) h w typed = pauses_fit k import (call_note import args (store_at who) (stack_at p who) (Some ticks)) a l who (typed refl) h w
 
   asked_fits : (k import : ℕ) (args : List Value) (who : Asker) (l : Left) (os : List Outcome) → LeftTyped p l → AskerFits import who → TurnFits (held_asked p x plan k import args who l os)
@@ -104,11 +105,11 @@ module _ (p : Module) (v : Valid p) (plan : Plan) (ex : ExportsTyped p) where
   asked_fits k import args who l (given a ∷ os) h w =
       let results : List ValType = (func_type_at p import).results in
       tested_fits k import args who (with_outcomes l os) a (fault_of results (length (store_at who).memory) plan (in_start who) import a) (pause_of a.ticks) h w
-      (λ passed. answer_typed results a.value (test_passed (answers results a.value) _ (or_else_first _ _ passed)) ∙ sym (results_are p v import))
+      (λ passed. said_typed p import results a.said (results_are p v import) (or_else_first _ _ passed))
 
   busy_turn : (ph : Phase) (l : Left) (outs : List ValType) (o : Next) → PhaseTyped p ph → LeftTyped p l → NextFits p outs o → TurnFits (busy_step p x plan ph l o)
   busy_turn ph l outs (steps k d) t h n = (any_notes [], (outs, n, t, h))
-  busy_turn (is_running task) l outs (asks k import args d) t h n = asked_fits k import args (inside task d) l l.outcomes h (t, outs, n.2)
+  busy_turn (is_running task) l outs (asks k import args d) t h n = asked_fits k import args (inside task d) l l.outcomes h (t, outs, n.2, n.0)
   busy_turn (unwinds e i a) l outs (asks k import args d) t h n = broken_fits k 1 d.store
   busy_turn (rewinds e i a sp) l outs (asks k import args d) t h n = by_import (eqb import i) refl
     where
@@ -122,6 +123,14 @@ module _ (p : Module) (v : Valid p) (plan : Plan) (ex : ExportsTyped p) where
   busy_turn (rewinds e i a sp) l outs (returns k results s) t h n = broken_fits k 5 s
   busy_turn ph l outs (traps k trap s) t h n = (any_notes (note (ended (trap_end plan.area ph trap s)) s ∷ []), tt)
   busy_turn ph l outs stuck t h n = absurd n
+
+  resumed_fits : (k import : ℕ) (e : Entry) (said : Said) (sp : Store) (c : Configuration) (l : Left) (s : Store) → EntryTyped p e → SaidTyped p import said → Waits p import c
+      → LeftTyped p l → StoreFits p s → TurnFits (held_resumed k e said sp c l s)
+  resumed_fits k import e (S.Value value) sp c l s t typed w h so = (
+    any_notes (answer_note (S.Value value) s sp ∷ []),
+    (w.0, answers_fit p w.0 c s (option_to_list value) so (subst (λ ts. CallersFit p w.0 ts (c.here ∷ c.under)) (sym typed) w.1), t, h),
+  )
+  resumed_fits k import e S.Trap sp c l s t typed w h so = (any_notes (answer_note S.Trap s sp ∷ note (ended (Trapped Import)) s ∷ []), tt)
 
   aside_back_fits : (k : ℕ) (ph : Phase) (th : Then) (l : Left) (results : List Value) (s : Store) → PhaseTyped p ph → ThenFits p ph th
       → LeftTyped p l → StoreFits p s → TurnFits (aside_back p x plan k ph th l results s)
@@ -140,16 +149,7 @@ module _ (p : Module) (v : Valid p) (plan : Plan) (ex : ExportsTyped p) where
       by_state : (b : Bool) → TurnFits (cond b (goes k [] (calling (rewinds e i a sp) s x.stop_rewind [] (give_answer c) l)) (broken k 4 s))
       by_state true = (any_notes [], (so, ex.stop_rewind, t, w, h))
       by_state false = broken_fits k 4 s
-  aside_back_fits k (rewinds e i a sp) (give_answer c) l results s t w h so = (
-    any_notes (answer_note a.value (poked s a.pokes) sp ∷ []),
-    (
-      w.0,
-      answers_fit p w.0 c (poked s a.pokes) (option_to_list a.value)
-          (poked_fits s a so) (subst (λ ts. CallersFit p w.0 ts (c.here ∷ c.under)) (sym t.1) w.1),
-      t.0,
-      h,
-    ),
-  )
+  aside_back_fits k (rewinds e i a sp) (give_answer c) l results s t w h so = resumed_fits k i e a.said sp c l (poked s a.pokes) t.0 t.1 w h (poked_fits s a so)
   aside_back_fits k _ _ l results s t w h so = absurd w
 
   aside_turn : (ph : Phase) (th : Then) (l : Left) (outs : List ValType) (o : Next) → PhaseTyped p ph → ThenFits p ph th → LeftTyped p l → NextFits p outs o → TurnFits (aside_step p x plan ph th l o)
@@ -210,11 +210,15 @@ module _ (p : Module) (v : Valid p) (plan : Plan) (ex : ExportsTyped p) where
   ticks_told zero t e = cc
   ticks_told (suc n) t e = (n, refl)
 
+  given_goes : (k : ℕ) (called : Note) (said : Said) (s : Store) (l : Left) (who : Asker) → held_given k called said s l who ≡ stops → ⊥
+  given_goes k called (S.Value value) s l (inside task c) e = cc
+  given_goes k called (S.Value value) s l (outermost old) e = cc
+  given_goes k called S.Trap s l who e = cc
+
   tested_goes : (k import : ℕ) (args : List Value) (who : Asker) (l : Left) (a : Answer) (o : Option End) (pause : Option ℕ) → (o ≡ None → (t : ℕ) → pause ≡ Some t → in_start who ≡ false)
       → held_tested p x plan k import args who l a o pause ≡ stops → ⊥
   tested_goes k import args who l a (Some r) pause out e = cc
-  tested_goes k import args (inside task c) l a None None out e = cc
-  tested_goes k import args (outermost s) l a None None out e = cc
+  tested_goes k import args who l a None None out e = given_goes k (call_note import args (store_at who) (stack_at p who) None) a.said (poked (store_at who) a.pokes) l who e
   tested_goes k import args (inside (an_entry y) c) l a None (Some t) out e = cc
   tested_goes k import args (inside the_start c) l a None (Some t) out e = let bad : true ≡ false = out refl t refl in cc
   tested_goes k import args (outermost s) l a None (Some t) out e = let bad : true ≡ false = out refl t refl in cc
@@ -247,13 +251,17 @@ module _ (p : Module) (v : Valid p) (plan : Plan) (ex : ExportsTyped p) where
   busy_goes ph l outs (traps k trap s) n e = cc
   busy_goes ph l outs stuck n e = n
 
+  resumed_goes : (k : ℕ) (y : Entry) (said : Said) (sp : Store) (c : Configuration) (l : Left) (s : Store) → held_resumed k y said sp c l s ≡ stops → ⊥
+  resumed_goes k y (S.Value value) sp c l s e = cc
+  resumed_goes k y S.Trap sp c l s e = cc
+
   aside_back_goes : (k : ℕ) (ph : Phase) (th : Then) (l : Left) (results : List Value) (s : Store) → ThenFits p ph th → aside_back p x plan k ph th l results s ≡ stops → ⊥
   aside_back_goes k (unwinds y i a) (give_zero c) l results s w e = cc
   aside_back_goes k (unwinds y i a) test_unwound l results s w e = if_goes (is_state 1 results) k 2 (calling (unwinds y i a) s x.stop_unwind [] pause_there l) s e
   aside_back_goes k (unwinds y i a) pause_there l results s w e = cc
   aside_back_goes k (rewinds y i a sp) call_again l results s w e = cc
   aside_back_goes k (rewinds y i a sp) (test_rewound c) l results s w e = if_goes (is_state 2 results) k 4 (calling (rewinds y i a sp) s x.stop_rewind [] (give_answer c) l) s e
-  aside_back_goes k (rewinds y i a sp) (give_answer c) l results s w e = cc
+  aside_back_goes k (rewinds y i a sp) (give_answer c) l results s w e = resumed_goes k y a.said sp c l (poked s a.pokes) e
   aside_back_goes k _ _ l results s w e = w
 
   aside_goes : (ph : Phase) (th : Then) (l : Left) (outs : List ValType) (o : Next) → ThenFits p ph th → NextFits p outs o → aside_step p x plan ph th l o ≡ stops → ⊥

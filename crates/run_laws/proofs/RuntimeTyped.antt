@@ -5,7 +5,7 @@ use Rattle.wa_types.specs.Syntax.{FuncType, Func, Module}
 use Rattle.wa_types.specs.Modules.{or_empty, type_at, func_type_at, defined_at}
 use Rattle.wa_types.specs.Runtime.{func_space, global_space, runtime_types, runtime_funcs, with_runtime}
 use Rattle.wa_types.specs.Validity.{Valid}
-use Rattle.wa_model.proofs.FittingNames.{defined_type}
+use Rattle.run_theory.proofs.FittingNames.{defined_type}
 use Rattle.run_laws.specs.RuntimeParts.{RuntimeExported}
 use Rattle.run_laws.specs.FittingStates.{Callable, ExportsTyped}
 use Rattle.run_laws.specs.Stopping.{RuntimeIsTyped}

@@ -8,11 +8,11 @@ use Rattle.wa_types.specs.Base.{Base}
 use Rattle.wa_types.specs.Syntax.{Module}
 use Rattle.wa_model.specs.Machine.{Turn, stops, goes, after, still, pay, run_with, CostsMore}
 use Rattle.wa_model.specs.Plan.{Plan}
-use Rattle.wa_model.specs.Laws.{start_of}
+use Rattle.run_theory.specs.DeterminedRuns.{start_of}
 use Rattle.wa_model.specs.Blocking.{Note, State, events_of, blocking}
 use Rattle.wa_model.specs.Behaves.{IsPrefix}
-use Rattle.wa_model.specs.Touches.{trace_turn, trace_with, trace, Touch, touched, touch_of, seen_at, seen_note}
-use Rattle.wa_model.proofs.Runs.{lt_true, lt_false}
+use Rattle.run_theory.specs.Touches.{trace_turn, trace_with, trace, Touch, touched, touch_of, seen_at, seen_note}
+use Rattle.run_theory.proofs.Runs.{lt_true, lt_false}
 use Rattle.run_laws.specs.Seeing.{made_event, SeenByMoves, SeenNoFurther, SeenEvents, SeenGrows}
 
 module _ {S E X : Type 0} (next : S → Turn S E) (see : S → List X) (shows : E → X) where

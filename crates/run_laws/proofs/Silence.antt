@@ -1,8 +1,11 @@
 -- Reductions that touch no store; and the test of those that stay off the area.
-use Rattle.std.proofs.Common.{arith, ◌≡◌, ◌<◌, ◌≤◌, ◌+◌, ℕ, zero, suc, List, [], ◌∷◌, ◌++◌, inl, inr, length, take, drop, Option, Some, None, Bool, true, false, not, ◌||◌, refl, sym, ap, ◌∙◌}
-use Rattle.std.specs.Prelude.{nat_lt, slice_get, unwrap_or}
-use Rattle.std.proofs.lemmas.Bool.{ltb-true, ltb-false}
-use Rattle.wa_types.specs.Syntax.{Basic, nop, drop as a_drop, select, const, num, global_get, global_set, load, store, memory_size, memory_grow, basic, local_get, local_set, local_tee, br}
+use Rattle.std.proofs.Common.{All, ◌≡◌, ◌≤◌, ◌+◌, ℕ, zero, suc, List, [], ◌∷◌, ◌++◌, inl, inr, length, take, drop, Option, Some, None, Bool, true, false, not, ◌||◌, refl, sym, ap, ◌∙◌}
+use Rattle.std.specs.Prelude.{nat_le, slice_get, unwrap_or}
+use Rattle.std.specs.List.{list_all}
+use Rattle.std.proofs.lemmas.Bool.{leb-true, le-leb}
+use Rattle.std.proofs.lemmas.List.Elements.{All-weaker}
+use Rattle.std.proofs.lemmas.List.Sums.{AllPass-from_list_all, list_all-from_AllPass}
+use Rattle.wa_types.specs.Syntax.{Basic, nop, drop as a_drop, select, const, num, global_get, global_set, load, store, memory_size, memory_grow, memory_copy, memory_fill, basic, local_get, local_set, local_tee, br}
 use Rattle.wa_types.specs.Syntax.{br_if, br_table, return, unreachable, call, call_indirect, a_block, a_loop, Code, done, plain, nest, branch, Module}
 use Rattle.wa_types.proofs.SlotLemmas.{either_true}
 use Rattle.wa_types.specs.declared.values.Value.{Value}
@@ -12,13 +15,13 @@ use Rattle.std.specs.Prelude.{Result, Ok, Err}
 use Rattle.wa_model.specs.Operate.{operate}
 use Rattle.wa_model.specs.declared.answers.Area.{Area}
 use Rattle.wa_model.specs.Machine.{goes, stays, moves}
-use Rattle.wa_model.specs.Store.{Store, Did, works, fails, lacks, takes, act, computed, Access}
+use Rattle.wa_model.specs.Store.{choose, Store, Did, works, fails, lacks, takes, extra_cost, act, computed, Range}
 use Rattle.wa_model.specs.Configuration.{Label, block_label, loop_label, Activation, Configuration, running}
-use Rattle.wa_model.specs.Step.{Next, steps, asks, returns, traps, stuck, result_count, leave, jump, finish, did, with_top, with_number, choose, arity_of, memory_max, step_at, step}
-use Rattle.wa_model.specs.Alone.{alone_next}
+use Rattle.wa_model.specs.Step.{Next, steps, asks, returns, traps, stuck, result_count, leave, jump, finish, did, with_top, with_number, arity_of, memory_max, step_at, step}
+use Rattle.run_theory.specs.Alone.{alone_next}
 use Rattle.wa_model.specs.Blocking.{Note, overlap}
-use Rattle.wa_model.specs.Untouched.{StaysOff, next_access}
-use Rattle.wa_model.specs.Keeping.{keeps_basic, keeps_code, silent_basic, silent_code, silent, stays_off}
+use Rattle.wa_model.specs.Untouched.{StaysOff, next_ranges}
+use Rattle.run_theory.specs.Keeping.{keeps_basic, keeps_code, silent_basic, silent_code, silent, stays_off}
 use Rattle.run_laws.specs.Stretches.{SilentIsKept, SilentStoresStay, CalmIsCalm}
 
 -- ---- silence is kept
@@ -35,10 +38,12 @@ basic_kept g area (load op align offset) ops h = cc
 basic_kept g area (store op align offset) ops h = cc
 basic_kept g area memory_size ops h = refl
 basic_kept g area memory_grow ops h = cc
+basic_kept g area memory_copy ops h = cc
+basic_kept g area memory_fill ops h = cc
 
 code_kept : (g : ℕ) (area : Area) (ops : List Value) (code : Code) → silent_code code ≡ true → keeps_code g area ops code ≡ true
 code_kept g area ops done h = refl
-code_kept g area ops (plain (basic b) rest) h = basic_kept g area b ops h
+code_kept g area ops (plain (basic b) rest) h = basic_kept g area b (take (takes b) ops) h
 code_kept g area ops (plain (local_get x) rest) h = refl
 code_kept g area ops (plain (local_set x) rest) h = refl
 code_kept g area ops (plain (local_tee x) rest) h = refl
@@ -83,12 +88,14 @@ module _ (s : Store) where
   act_stays most (store op align offset) ops h = cc
   act_stays most memory_size [] h = refl
   act_stays most memory_grow ops h = cc
+  act_stays most memory_copy ops h = cc
+  act_stays most memory_fill ops h = cc
   act_stays most _ _ h = tt
 
-  did_stays : (fn : ℕ) (under : List Activation) (ls : List Value) (labels : List Label) (rest : Code) (ops : List Value) (d : Did) → DidStays d → NextStays s (did fn under ls labels rest s ops d)
-  did_stays fn under ls labels rest ops (works s' results) h = h
-  did_stays fn under ls labels rest ops (fails trap) h = tt
-  did_stays fn under ls labels rest ops lacks h = tt
+  did_stays : (k fn : ℕ) (under : List Activation) (ls : List Value) (labels : List Label) (rest : Code) (ops : List Value) (d : Did) → DidStays d → NextStays s (did k fn under ls labels rest s ops d)
+  did_stays k fn under ls labels rest ops (works s' results) h = h
+  did_stays k fn under ls labels rest ops (fails trap) h = tt
+  did_stays k fn under ls labels rest ops lacks h = tt
 
   leave_stays : (k : ℕ) (ops : List Value) (arity : ℕ) (under : List Activation) → NextStays s (leave k s ops arity under)
   leave_stays k ops arity [] = tt
@@ -123,7 +130,7 @@ module _ (s : Store) where
     step_stays : (ls ops : List Value) (labels : List Label) (code : Code) → silent_code code ≡ true → NextStays s (step_at m s fn under ls ops labels code)
     step_stays ls ops labels done h = finish_stays ls ops labels
     step_stays ls ops labels (plain (basic b) rest) h =
-        did_stays fn under ls labels rest (drop (takes b) ops) (act (memory_max m) b s (take (takes b) ops)) (act_stays (memory_max m) b (take (takes b) ops) h)
+        did_stays (extra_cost b (take (takes b) ops)) fn under ls labels rest (drop (takes b) ops) (act (memory_max m) b s (take (takes b) ops)) (act_stays (memory_max m) b (take (takes b) ops) h)
     step_stays ls ops labels (plain (local_get x) rest) h = refl
     step_stays ls ops labels (plain (local_set x) rest) h = top_stays ops _ (λ v below. refl)
     step_stays ls ops labels (plain (local_tee x) rest) h = top_stays ops _ (λ v below. refl)
@@ -166,23 +173,53 @@ silent_stores_stay m c d n es (moves {t = t} {k = k} {n = n1} {es = es1} {fs = f
 
 -- ---- the test of calm
 
-access_calm : (area : Area) (size : ℕ) (o : Option Access) → (stays_off area size o ≡ true → StaysOff area size o) × (StaysOff area size o → stays_off area size o ≡ true)
-access_calm area size None = (λ h. tt, λ h. refl)
-access_calm area size (Some x) = (to, by_size (nat_lt size (x.at + x.width)) refl)
-  where
-    not_true : (b : Bool) → not b ≡ true → b ≡ false
-    not_true true e = cc
-    not_true false e = refl
+abbrev inside : (size : ℕ) → Range → Bool
+inside size = λ (x : Range). nat_le (x.at + x.len) size
 
-    to : (nat_lt size (x.at + x.width) || not (overlap x.at x.width area.at area.len)) ≡ true → x.at + x.width ≤ size → overlap x.at x.width area.at area.len ≡ false
-    to h le = elim (either_true (nat_lt size (x.at + x.width)) (not (overlap x.at x.width area.at area.len)) h) [
-      | inl e ↦ absurd (let lt : size < x.at + x.width = ltb-true size (x.at + x.width) e in omega (arith, lt, le))
-      | inr e ↦ not_true (overlap x.at x.width area.at area.len) e
+abbrev off : Area → Range → Bool
+off area = λ (x : Range). not (overlap x.at x.len area.at area.len)
+
+abbrev IsInside : (size : ℕ) → Range → Type 0
+IsInside size = λ (x : Range). x.at + x.len ≤ size
+
+abbrev IsOff : Area → Range → Type 0
+IsOff area = λ (x : Range). overlap x.at x.len area.at area.len ≡ false
+
+not_true : (b : Bool) → not b ≡ true → b ≡ false
+not_true true e = cc
+not_true false e = refl
+
+not_both : (b : Bool) → b ≡ true → not b ≡ true → ⊥
+not_both true e h = cc
+not_both false e h = cc
+
+all_inside : (size : ℕ) (xs : List Range) → All (IsInside size) xs → list_all (inside size) xs ≡ true
+all_inside size xs h =
+    list_all-from_AllPass (inside size) xs (All-weaker (IsInside size) (λ (x : Range). inside size x ≡ true) (λ x le. le-leb (x.at + x.len) size le) xs h)
+
+inside_all : (size : ℕ) (xs : List Range) → list_all (inside size) xs ≡ true → All (IsInside size) xs
+inside_all size xs e =
+    All-weaker (λ (x : Range). inside size x ≡ true) (IsInside size) (λ x h. leb-true (x.at + x.len) size h) xs (AllPass-from_list_all (inside size) xs e)
+
+all_off : (area : Area) (xs : List Range) → All (IsOff area) xs → list_all (off area) xs ≡ true
+all_off area xs h = list_all-from_AllPass (off area) xs (All-weaker (IsOff area) (λ (x : Range). off area x ≡ true) (λ x e. ap not e) xs h)
+
+off_all : (area : Area) (xs : List Range) → list_all (off area) xs ≡ true → All (IsOff area) xs
+off_all area xs e =
+    All-weaker (λ (x : Range). off area x ≡ true) (IsOff area) (λ x h. not_true (overlap x.at x.len area.at area.len) h) xs (AllPass-from_list_all (off area) xs e)
+
+ranges_calm : (area : Area) (size : ℕ) (xs : List Range) → (stays_off area size xs ≡ true → StaysOff area size xs) × (StaysOff area size xs → stays_off area size xs ≡ true)
+ranges_calm area size xs = (to, by_inside (list_all (inside size) xs) refl)
+  where
+    to : (not (list_all (inside size) xs) || list_all (off area) xs) ≡ true → All (IsInside size) xs → All (IsOff area) xs
+    to h all = elim (either_true (not (list_all (inside size) xs)) (list_all (off area) xs) h) [
+      | inl e ↦ absurd (not_both (list_all (inside size) xs) (all_inside size xs all) e)
+      | inr e ↦ off_all area xs e
     ]
 
-    by_size : (b : Bool) → nat_lt size (x.at + x.width) ≡ b → (x.at + x.width ≤ size → overlap x.at x.width area.at area.len ≡ false) → (b || not (overlap x.at x.width area.at area.len)) ≡ true
-    by_size true e h = refl
-    by_size false e h = ap not (h (ltb-false size (x.at + x.width) e))
+    by_inside : (b : Bool) → list_all (inside size) xs ≡ b → StaysOff area size xs → (not b || list_all (off area) xs) ≡ true
+    by_inside true e h = all_off area xs (h (inside_all size xs e))
+    by_inside false e h = refl
 
 pub calm_is_calm : CalmIsCalm
-calm_is_calm area task c l = access_calm area (length c.store.memory) (next_access c)
+calm_is_calm area task c l = ranges_calm area (length c.store.memory) (next_ranges c)

@@ -8,8 +8,10 @@ use Rattle.wa_types.specs.declared.values.ValType.{ValType}
 use Rattle.wa_types.specs.declared.values.Value.{Value}
 use Rattle.wa_types.specs.Base.{Base}
 use Rattle.wa_types.specs.Syntax.{FuncType, Func, Module}
-use Rattle.wa_types.specs.Validity.{start_indices, Valid}
+use Rattle.wa_types.specs.Validity.{Valid}
 use Rattle.wa_types.specs.Modules.{imported, imported_global, func_imports, func_sorts, func_type_at, defined_at}
+use Rattle.wa_model.specs.declared.answers.Said.{Said}
+use Rattle.wa_model.specs.declared.answers.Said.TheVariants as S
 use Rattle.wa_model.specs.declared.events.End.{End}
 use Rattle.wa_model.specs.declared.events.End.TheVariants.{Trapped}
 use Rattle.wa_model.specs.Outside.{Answer, answered, returned, ended}
@@ -18,20 +20,18 @@ use Rattle.wa_model.specs.Store.{Store}
 use Rattle.wa_model.specs.Step.{Next, steps, asks, returns, traps, stuck, step}
 use Rattle.wa_model.specs.Plan.{Entry, EntryFits, Plan, Outcome, given, refused}
 use Rattle.wa_model.specs.Instantiation.{Opening, fails_as, opens, opening}
-use Rattle.wa_model.specs.Blocking.{Note, note, no_store, value_of_results, answers, fault_of, pause_of, poked, done_notes, Task, the_start, an_entry, Left, with_outcomes, Asker, inside}
-use Rattle.wa_model.specs.Blocking.{outermost, store_at, in_start, stack_at, call_note, State, between, begins, runs, halts, on_to, next_entry, task_back, go_on, tested, asked, by_step}
-use Rattle.wa_model.specs.Blocking.{enters, enter_next, start_called, blocking, all_left, started, begun, continued, Blocking}
-use Rattle.wa_model.specs.Fitting.{types_of, results_of, global_types, StoreFits, CallersFit, WaitingFits, NextFits}
-use Rattle.wa_model.specs.Growth.{Each}
-use Rattle.wa_model.proofs.Invariants.{TurnKeeps, RanKeeps, after_keeps, leads_keeps}
-use Rattle.wa_model.proofs.FittingNames.{not_defined, results_are}
-use Rattle.wa_model.proofs.FittingSteps.{steps_fit}
-use Rattle.wa_model.proofs.FittingRuns.{calls_fit, answers_fit}
-use Rattle.wa_model.proofs.FittingOpenings.{openings_fit}
-use Rattle.wa_model.proofs.NamedModules.{valid_instance}
-use Rattle.wa_model.proofs.BaseValid.{base_valid}
-use Rattle.stack_laws.proofs.SpotRuns.{answer_typed, or_else_first, test_passed, listed_typed, start_takes_none, base_globals, base_type, base_defined}
-use Rattle.run_laws.specs.FittingStates.{EntryTyped, LeftTyped, SomeLeft, StateFits}
+use Rattle.wa_model.specs.Blocking.{Note, note, no_store, value_of_results, fault_of, pause_of, poked, done_notes, import_traps, Task, the_start, an_entry, Left, with_outcomes, Asker, inside, outermost, store_at, in_start, stack_at, call_note, State, between, begins, runs, halts, on_to, next_entry, task_back, go_on, tested, asked, by_step, enters, enter_next, start_called, blocking, all_left, started, begun, continued, Blocking}
+use Rattle.run_theory.specs.Fitting.{types_of, results_of, global_types, StoreFits, CallersFit, WaitingFits, NextFits}
+use Rattle.run_theory.specs.Growth.{Each}
+use Rattle.run_theory.proofs.Invariants.{TurnKeeps, RanKeeps, after_keeps, leads_keeps}
+use Rattle.run_theory.proofs.FittingNames.{not_defined, results_are}
+use Rattle.run_theory.proofs.FittingSteps.{steps_fit}
+use Rattle.run_theory.proofs.FittingRuns.{calls_fit, answers_fit}
+use Rattle.run_theory.proofs.FittingOpenings.{openings_fit}
+use Rattle.run_theory.proofs.NamedModules.{valid_instance}
+use Rattle.run_theory.proofs.BaseValid.{base_valid}
+use Rattle.run_laws.proofs.SpotRuns.{said_typed, or_else_first, listed_typed, start_takes_none, base_globals, base_type, base_defined}
+use Rattle.run_laws.specs.FittingStates.{EntryTyped, LeftTyped, SomeLeft, StateFits, SaidTyped}
 use Rattle.run_laws.specs.Stopping.{BlockingStatesStop, BlockingStatesStay, BlockingRunsFit, BlockingStopsOver}
 
 module _ (b : Module) (v : Valid b) (plan : Plan) where
@@ -64,20 +64,21 @@ module _ (b : Module) (v : Valid b) (plan : Plan) where
   poked_fits : (s : Store) (a : Answer) → StoreFits b s → StoreFits b (poked s a.pokes)
   poked_fits s a so = record { globals = so.globals; table = so.table }
 
-  go_on_fits : (k import : ℕ) (x : Note) (a : Answer) (s : Store) (l : Left) (who : Asker) → StoreFits b s → types_of (option_to_list a.value) ≡ results_of b import
-      → LeftTyped b l → AskerFits import who → TurnFits (go_on k x a s l who)
-  go_on_fits k import x a s l (inside task c) so e h w =
-      (any_notes (x ∷ note (answered a.value) s ∷ []), (w.0, answers_fit b w.0 c s (option_to_list a.value) so (subst (λ ts. CallersFit b w.0 ts (c.here ∷ c.under)) (sym e) w.1.waits), h))
-  go_on_fits k import x a s l (outermost old) so e h w = (any_notes (x ∷ note (answered a.value) s ∷ done_notes s l.entries), on_fits s l l.entries refl so h)
+  go_on_fits : (k import : ℕ) (x : Note) (said : Said) (s : Store) (l : Left) (who : Asker) → StoreFits b s → SaidTyped b import said
+      → LeftTyped b l → AskerFits import who → TurnFits (go_on k x said s l who)
+  go_on_fits k import x (S.Value value) s l (inside task c) so e h w =
+      (any_notes (x ∷ note (answered (S.Value value)) s ∷ []), (w.0, answers_fit b w.0 c s (option_to_list value) so (subst (λ ts. CallersFit b w.0 ts (c.here ∷ c.under)) (sym e) w.1.waits), h))
+  go_on_fits k import x (S.Value value) s l (outermost old) so e h w = (any_notes (x ∷ note (answered (S.Value value)) s ∷ done_notes s l.entries), on_fits s l l.entries refl so h)
+  go_on_fits k import x S.Trap s l who so e h w = (any_notes (x ∷ import_traps s), tt)
 
   tested_fits : (k import : ℕ) (args : List Value) (who : Asker) (l : Left) (a : Answer) (o : Option End) → LeftTyped b l → AskerFits import who
-      → (o ≡ None → types_of (option_to_list a.value) ≡ results_of b import) → TurnFits (tested b k import args who l a o)
+      → (o ≡ None → SaidTyped b import a.said) → TurnFits (tested b k import args who l a o)
   tested_fits k import args who l a (Some e) h w typed = (any_notes (called_at ∷ note (ended e) called_at.store ∷ []), tt)
     where
       called_at : Note
       called_at = call_note import args (store_at who) (stack_at b who) None
   tested_fits k import args who l a None h w typed =
-      go_on_fits k import (call_note import args (store_at who) (stack_at b who) (pause_of a.ticks)) a (poked (store_at who) a.pokes) l who
+      go_on_fits k import (call_note import args (store_at who) (stack_at b who) (pause_of a.ticks)) a.said (poked (store_at who) a.pokes) l who
       (poked_fits (store_at who) a (asker_store import who w)) (typed refl) h w
 
   asked_fits : (k import : ℕ) (args : List Value) (who : Asker) (l : Left) (os : List Outcome) → LeftTyped b l → AskerFits import who → TurnFits (asked b plan k import args who l os)
@@ -86,7 +87,7 @@ module _ (b : Module) (v : Valid b) (plan : Plan) where
   asked_fits k import args who l (given a ∷ os) h w =
       let results : List ValType = (func_type_at b import).results in
       tested_fits k import args who (with_outcomes l os) a (fault_of results (length (store_at who).memory) plan (in_start who) import a) h w
-      (λ passed. answer_typed results a.value (test_passed (answers results a.value) _ (or_else_first _ _ passed)) ∙ sym (results_are b v import))
+      (λ passed. said_typed b import results a.said (results_are b v import) (or_else_first _ _ passed))
 
   step_turn : (task : Task) (l : Left) (outs : List ValType) (o : Next) → LeftTyped b l → NextFits b outs o → TurnFits (by_step b plan task l o)
   step_turn task l outs (steps k d) h n = (any_notes [], (outs, n, h))
@@ -131,6 +132,11 @@ module _ (b : Module) (v : Valid b) (plan : Plan) where
 
   -- ---- where it stops
 
+  go_on_goes : (k : ℕ) (x : Note) (said : Said) (s : Store) (l : Left) (w : Asker) → go_on k x said s l w ≡ stops → ⊥
+  go_on_goes k x (S.Value value) s l (inside task c) e = cc
+  go_on_goes k x (S.Value value) s l (outermost old) e = cc
+  go_on_goes k x S.Trap s l w e = cc
+
   asked_goes : (k import : ℕ) (args : List Value) (who : Asker) (l : Left) (os : List Outcome) → asked b plan k import args who l os ≡ stops → ⊥
   asked_goes k import args who l [] e = cc
   asked_goes k import args who l (refused r ∷ os) e = cc
@@ -138,8 +144,7 @@ module _ (b : Module) (v : Valid b) (plan : Plan) where
     where
       by_test : (o : Option End) (w : Asker) → tested b k import args w (with_outcomes l os) a o ≡ stops → ⊥
       by_test (Some r) w e = cc
-      by_test None (inside task c) e = cc
-      by_test None (outermost s) e = cc
+      by_test None w e = go_on_goes k (call_note import args (store_at w) (stack_at b w) (pause_of a.ticks)) a.said (poked (store_at w) a.pokes) (with_outcomes l os) w e
 
   back_goes : (k : ℕ) (task : Task) (results : List Value) (s : Store) (l : Left) → task_back k task results s l ≡ stops → ⊥
   back_goes k the_start results s l e = cc
@@ -175,7 +180,7 @@ module _ (b : Module) (v : Valid b) (plan : Plan) where
   stops_over (runs task c l) h e = absurd (step_goes task l h.0 (step b c) (steps_fit b h.0 c v h.1) e)
   stops_over (halts s) h e = (s, refl)
 
-pub start_there : (b : Module) (x : ℕ) (o : Option ℕ) → Each (λ y. y < length (func_sorts b)) (start_indices o) → o ≡ Some x → x < length (func_sorts b)
+pub start_there : (b : Module) (x : ℕ) (o : Option ℕ) → Each (λ y. y < length (func_sorts b)) (option_to_list o) → o ≡ Some x → x < length (func_sorts b)
 start_there b x None h e = cc
 start_there b x (Some y) h e = let z : y ≡ x = cc in subst (λ n. n < length (func_sorts b)) z h.0
 

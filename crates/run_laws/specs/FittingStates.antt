@@ -4,14 +4,15 @@ use Rattle.std.specs.Option.{option_to_list}
 use Rattle.wa_types.specs.declared.values.ValType.{ValType}
 use Rattle.wa_types.specs.declared.values.ValType.TheVariants.{I32}
 use Rattle.wa_types.specs.Syntax.{Func, Module}
-use Rattle.wa_types.specs.Modules.{func_sorts, func_type_at, defined_at}
-use Rattle.wa_model.specs.Outside.{Answer}
+use Rattle.wa_types.specs.Modules.{func_imports, func_sorts, func_type_at, defined_at}
+use Rattle.wa_model.specs.declared.answers.Said.{Said}
+use Rattle.wa_model.specs.declared.answers.Said.TheVariants as S
 use Rattle.wa_model.specs.Configuration.{Configuration}
 use Rattle.wa_model.specs.Plan.{Entry}
 use Rattle.wa_model.specs.Blocking.{Task, the_start, an_entry, Left, State, between, begins, runs, halts}
 use Rattle.wa_model.specs.Protocol.{exports_of, Phase, is_running, unwinds, rewinds, Then, give_zero, test_unwound, pause_there, call_again, test_rewound, give_answer, Held, free, starting}
 use Rattle.wa_model.specs.Protocol.{busy, calling, aside, entering, over}
-use Rattle.wa_model.specs.Fitting.{types_of, results_of, StoreFits, CallersFit, Fits}
+use Rattle.run_theory.specs.Fitting.{types_of, results_of, StoreFits, CallersFit, Fits}
 
 -- a defined function that takes operands of these types
 abbrev pub Callable : Module → ℕ → List ValType → Type 0
@@ -48,15 +49,16 @@ abbrev pub TaskTyped : Module → Task → Type 0
 TaskTyped p the_start = Unit {0}
 TaskTyped p (an_entry e) = EntryTyped p e
 
--- an answer of the import's result
-abbrev pub AnswerTyped : Module → ℕ → Answer → Type 0
-AnswerTyped p import a = types_of (option_to_list a.value) ≡ results_of p import
+-- what is said is a value of the import's result, or a trap
+abbrev pub SaidTyped : Module → ℕ → Said → Type 0
+SaidTyped p import (S.Value v) = types_of (option_to_list v) ≡ results_of p import
+SaidTyped p import S.Trap = Unit {0}
 
--- the entry, and what waits in a phase of a pause
+-- the entry, and what waits in a phase of a pause, at an import that is there
 abbrev pub PhaseTyped : Module → Phase → Type 0
 PhaseTyped p (is_running task) = TaskTyped p task
-PhaseTyped p (unwinds e i a) = EntryTyped p e × AnswerTyped p i a
-PhaseTyped p (rewinds e i a at_pause) = EntryTyped p e × AnswerTyped p i a
+PhaseTyped p (unwinds e i a) = EntryTyped p e × SaidTyped p i a.said × (i < func_imports p)
+PhaseTyped p (rewinds e i a at_pause) = EntryTyped p e × SaidTyped p i a.said × (i < func_imports p)
 
 -- what waits for the results of an import
 abbrev pub Waits : Module → ℕ → Configuration → Type 0

@@ -6,7 +6,7 @@ use Rattle.wa_model.specs.Plan.{Plan, Outcome}
 use Rattle.wa_model.specs.Blocking.{Note, Blocking}
 use Rattle.wa_model.specs.Protocol.{Protocol}
 use Rattle.wa_model.specs.Behaves.{IsPrefix, PausesNumbered, Compared, expected_notes}
-use Rattle.wa_model.specs.World.{is_end}
+use Rattle.world_model.specs.World.{is_end}
 
 -- What is expected within a cost begins what is expected within more.
 abbrev pub ExpectedGrow : Type 0

@@ -1,7 +1,12 @@
 pub mod FittingStates
 pub mod Growing
+pub mod Lawful
+pub mod ListedPauses
+pub mod Ranges
 pub mod RewrittenByHand
 pub mod RuntimeParts
 pub mod Seeing
+pub mod Sites
+pub mod Standing
 pub mod Stopping
 pub mod Stretches

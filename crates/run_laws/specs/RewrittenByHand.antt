@@ -13,6 +13,7 @@ use Rattle.wa_types.specs.Syntax.{Basic, drop, const, num, global_get, unreachab
 use Rattle.wa_types.specs.Memory.{bytes_at}
 use Rattle.wa_types.specs.Pausing.{save_all}
 use Rattle.wa_types.specs.Runtime.{with_runtime}
+use Rattle.wa_model.specs.declared.answers.Said.TheVariants as S
 use Rattle.wa_model.specs.declared.events.End.TheVariants.{Done, UnwindTrap}
 use Rattle.wa_model.specs.Outside.{Event, called, answered, paused, returned, ended}
 use Rattle.wa_model.specs.Plan.{Entry, Plan, Outcome, given}
@@ -42,7 +43,7 @@ export_of x = record { name = codes "run"; space = Sp.Func; index = x }
 
 -- an answer of this value, with these ticks
 abbrev pub answer : Option Value → ℕ → Outcome
-answer v ticks = given (record { value = v; pokes = []; ticks = ticks })
+answer v ticks = given (record { said = S.Value v; pokes = []; ticks = ticks })
 
 -- the event of a call of an import
 abbrev pub call_of : ℕ → List Value → Event
@@ -82,7 +83,7 @@ five_more = module_with (record { sort = 0; locals = []; body = then (const (i32
 
 -- a plan that calls `run` with 7, with an area of this length
 abbrev pub area_of : ℕ → Plan
-area_of len = record { globals = []; entries = entry 1 (i32 7 ∷ []) ∷ []; area = record { at = 1024; len = len }; listed = Some (true ∷ []) }
+area_of len = record { globals = []; entries = entry 1 (i32 7 ∷ []) ∷ []; area = record { at = 1024; len = len }; others = []; listed = Some (true ∷ []) }
 
 -- a word of the area, this far behind the location, into a local
 abbrev pub word_into : ℕ → ℕ → Code → Code
@@ -178,7 +179,7 @@ right_one = hand back_all out_all keeps_apart
 -- both slots.
 pub record RightIsExpected : Type 0 where
   pub fits : held right_one 64 ≡ wanted 64
-  pub events : wanted 64 ≡ call_of 0 (i32 7 ∷ []) ∷ paused 5 24 ∷ answered (Some (i32 42)) ∷ returned 0 (Some (i32 47)) ∷ ended Done ∷ []
+  pub events : wanted 64 ≡ call_of 0 (i32 7 ∷ []) ∷ paused 5 24 ∷ answered (S.Value (Some (i32 42))) ∷ returned 0 (Some (i32 47)) ∷ ended Done ∷ []
   pub short : held right_one 20 ≡ wanted 20
   pub trap : wanted 20 ≡ call_of 0 (i32 7 ∷ []) ∷ ended (UnwindTrap Unreachable 8 20) ∷ []
   pub frame : bytes_shown right_one 64 1 1032 16 ≡ 7 ∷ 0 ∷ 0 ∷ 0 ∷ 5 ∷ 0 ∷ 0 ∷ 0 ∷ 7 ∷ 0 ∷ 0 ∷ 0 ∷ 0 ∷ 0 ∷ 0 ∷ 0 ∷ []
@@ -186,7 +187,7 @@ pub record RightIsExpected : Type 0 where
 -- Each of these is told apart. Where an operand isn't restored, 42 is returned for 47.
 abbrev pub OperandLost : Type 0
 OperandLost =
-    held (hand back_less out_all keeps_apart) 64 ≡ call_of 0 (i32 7 ∷ []) ∷ paused 5 24 ∷ answered (Some (i32 42)) ∷ returned 0 (Some (i32 42)) ∷ ended Done ∷ []
+    held (hand back_less out_all keeps_apart) 64 ≡ call_of 0 (i32 7 ∷ []) ∷ paused 5 24 ∷ answered (S.Value (Some (i32 42))) ∷ returned 0 (Some (i32 42)) ∷ ended Done ∷ []
 
 -- Where the frame is written before its room is tested, the events are right, but bytes behind the area are written, which
 -- are 0 in the other run.
@@ -229,5 +230,5 @@ hand_big = with_runtime (module_with (record {
 
 -- A number that is none of 32 bits passes a frame as another one: it comes back as 5.
 pub record FramesCutNumbers : Type 0 where
-  pub blocking : events_of (Blocking keeps_big (area_of 64) one_pause 40).events ≡ call_of 0 (i32 7 ∷ []) ∷ answered (Some (i32 42)) ∷ returned 0 (Some (i32 too_big)) ∷ ended Done ∷ []
-  pub protocol : held hand_big 64 ≡ call_of 0 (i32 7 ∷ []) ∷ paused 5 24 ∷ answered (Some (i32 42)) ∷ returned 0 (Some (i32 5)) ∷ ended Done ∷ []
+  pub blocking : events_of (Blocking keeps_big (area_of 64) one_pause 40).events ≡ call_of 0 (i32 7 ∷ []) ∷ answered (S.Value (Some (i32 42))) ∷ returned 0 (Some (i32 too_big)) ∷ ended Done ∷ []
+  pub protocol : held hand_big 64 ≡ call_of 0 (i32 7 ∷ []) ∷ paused 5 24 ∷ answered (S.Value (Some (i32 42))) ∷ returned 0 (Some (i32 5)) ∷ ended Done ∷ []

@@ -8,7 +8,7 @@ use Rattle.wa_types.specs.Validity.{Valid}
 use Rattle.wa_types.specs.Runtime.{func_space, global_space, runtime_funcs, with_runtime}
 use Rattle.wa_model.specs.Plan.{Plan, Fits}
 use Rattle.wa_model.specs.Protocol.{exports_of}
-use Rattle.wa_model.specs.Quiet.{FreeOfNames}
+use Rattle.run_theory.specs.Quiet.{FreeOfNames}
 use Rattle.wa_model.specs.Rewrites.{Rewrites}
 
 -- The exports that the host calls are the five functions behind the original's, in their order.

@@ -7,7 +7,7 @@ use Rattle.wa_model.specs.Outside.{Event}
 use Rattle.wa_model.specs.Plan.{Plan, Outcome}
 use Rattle.wa_model.specs.Blocking.{Note, State, events_of, blocking, Blocking}
 use Rattle.wa_model.specs.Behaves.{IsPrefix}
-use Rattle.wa_model.specs.Touches.{trace, Seen, made, touched, seen_at, seen_note, Touches}
+use Rattle.run_theory.specs.Touches.{trace, Seen, made, touched, seen_at, seen_note, Touches}
 
 -- Where the next move can be paid, there stands what is seen before it, then its events, then what is seen from where it leads;
 abbrev pub SeenByMoves : Type 0

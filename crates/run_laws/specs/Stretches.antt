@@ -4,13 +4,13 @@ use Rattle.wa_types.specs.Syntax.{Module}
 use Rattle.wa_model.specs.declared.answers.Area.{Area}
 use Rattle.wa_model.specs.Machine.{run, Leads}
 use Rattle.wa_model.specs.Configuration.{Configuration}
-use Rattle.wa_model.specs.Alone.{alone}
+use Rattle.run_theory.specs.Alone.{alone}
 use Rattle.wa_model.specs.Plan.{Plan}
 use Rattle.wa_model.specs.Blocking.{Note, Left, Task, runs, blocking, store_of}
 use Rattle.wa_model.specs.Untouched.{IsCalm}
 use Rattle.wa_model.specs.Protocol.{Exports, Phase, Then, busy, aside, protocol, store_held}
 use Rattle.wa_model.specs.Expected.{SameEnd}
-use Rattle.wa_model.specs.Keeping.{keeps, silent, calm}
+use Rattle.run_theory.specs.Keeping.{keeps, silent, calm}
 
 -- Along reductions that write none of so many globals, no byte outside the area, and don't grow the memory, at each cost
 -- within them: a run under the protocol has made no event, and its store is the first one but for the area. In any phase,
@@ -34,7 +34,7 @@ KeptBlocking =
     → Leads (alone (keeps globals area) m) c n es d → (j : ℕ) → j ≤ n
     → ((run (blocking m plan) j (runs task c l)).events ≡ []) × SameEnd globals area c.store (store_of (run (blocking m plan) j (runs task c l)).last)
 
--- Reductions that are no call, load, store, change of a global or growth are such reductions, whatever the globals and the area,
+-- Reductions that are no call, load, store, copy, fill, change of a global or growth are such reductions, whatever the globals and the area,
 abbrev pub SilentIsKept : Type 0
 SilentIsKept = (globals : ℕ) (area : Area) (c : Configuration) → silent c ≡ true → keeps globals area c ≡ true
 

@@ -9,7 +9,7 @@ pub fn stretches_are_kept()
     ensures blocking { KeptBlocking }
 {}
 
-/// Reductions that are no call, load, store, change of a global or growth are such reductions, and leave the store as it is.
+/// Reductions that are no call, load, store, copy, fill, change of a global or growth are such reductions, and leave the store as it is.
 pub fn silent_reductions_are_kept()
     ensures kept { SilentIsKept }
     ensures stores { SilentStoresStay }

@@ -1,9 +1,9 @@
 -- A call's end is its answer.
 use Rattle.std.proofs.Common.{◌≡◌, ◌⊎◌, inl, inr, ℕ, List, Option, Some, None, refl, sym, ap, ◌∙◌, subst}
-use Rattle.vault_port.specs.Counts.{HasRisen}
+use Rattle.vault_port.specs.Counts.{FailsOnce}
 use Rattle.vault_port.specs.Files.{Files, IsMissing}
-use Rattle.script_verdicts.specs.Playing.{Cause, IsRead, IsRefused, Play}
-use Rattle.script_verdicts.proofs.Scripts.{IsThere, one_cause, played_not_refused, played_reads, refused_reads}
+use Rattle.script_command.specs.Playing.{Cause, IsRead, IsRefused, Play}
+use Rattle.script_command.proofs.WholeScripts.{IsThere, one_cause, played_not_refused, played_reads, refused_reads}
 use Rattle.script_command.specs.Ends.{Call, End, done, memory, sink_fault, refused, read_fault_of, HasEnd, IsWhy, status_of_end}
 use Rattle.script_command.specs.Answers.{HasOneEnd, IsReadFault, NothingFails}
 
@@ -24,13 +24,13 @@ module _ (c : Call) (all : Files) (told : c.files ≡ Some all) where
       not_missing (all read) there.0 there.1 (subst (λ (files : Option Files). IsMissing files read) told missing)
 
   refusals : (cause : Cause) (which : End) → IsWhy c which → IsRefused c.way (Some all) c.name cause
-      → (which ≡ refused cause) ⊎ (which ≡ memory) ⊎ (IsReadFault which × HasRisen c.fetch_faults c.fetch_faults')
+      → (which ≡ refused cause) ⊎ (which ≡ memory) ⊎ (IsReadFault which × FailsOnce c.fetch_faults c.fetch_faults')
   refusals cause done why h = absurd (played_not_refused c.way all c.name cause (play_told why.0) h)
   refusals cause sink_fault why h = absurd (played_not_refused c.way all c.name cause (play_told why.0) h)
   refusals cause memory why h = inr (inl refl)
   refusals cause (read_fault_of read) why h = elim why.1 [
-    | inl risen ↦ inr (inr (tt, risen))
-    | inr missing ↦ absurd (never_missing read (refused_reads c.way all c.name cause h read) why.0 missing)
+    | inl failed ↦ inr (inr (tt, failed))
+    | inr missing ↦ absurd (never_missing read (refused_reads c.way all c.name cause h read) why.0 missing.0)
   ]
   refusals cause (refused other) why h = inl (ap (λ (x : Cause). refused x) (one_cause c.way all c.name other cause (refused_told other why.0) h))
 
@@ -40,8 +40,8 @@ module _ (c : Call) (all : Files) (told : c.files ≡ Some all) where
   accepted memory why p n = inr refl
   accepted (refused cause) why p n = absurd (played_not_refused c.way all c.name cause p (refused_told cause why.0))
   accepted (read_fault_of read) why p n = elim why.1 [
-    | inl risen ↦ absurd (n.fetches risen)
-    | inr missing ↦ absurd (never_missing read (played_reads c.way all c.name p read) why.0 missing)
+    | inl failed ↦ absurd (n.fetches failed)
+    | inr missing ↦ absurd (never_missing read (played_reads c.way all c.name p read) why.0 missing.0)
   ]
 
 -- a refusal leaves the devices

@@ -1,22 +1,26 @@
 -- Which statuses ends have.
 use Rattle.std.proofs.Common.{◌≡◌, ◌≢◌, inl, inr, ℕ, List, Option, refl, sym, ◌∙◌, ap, subst, arith}
 use Rattle.vault_port.specs.Files.{Files}
-use Rattle.wa_model.specs.Script.{ProgramText, ScriptFault, breaks, too_many}
-use Rattle.wa_model.specs.Transcript.{Refusal, usage, out_of_memory, malformed, float, nesting, invalid, limit, reserved, script, read_fault, write_fault}
-use Rattle.host_modules.specs.Prepared.{IsOfContent, IsUnprepared}
-use Rattle.host_files.specs.Scripts as H
-use Rattle.host_files.specs.Scripts.{IsNoScript}
-use Rattle.printing.specs.Refused.{status_of}
-use Rattle.script_verdicts.specs.Sources as S
-use Rattle.script_verdicts.specs.Sources.{refusal_for}
-use Rattle.script_verdicts.specs.Way.{Way}
-use Rattle.script_verdicts.specs.Way.TheVariants.{Host, Run}
-use Rattle.script_verdicts.specs.OpenFault.{OpenFault}
-use Rattle.script_verdicts.specs.OpenFault.TheVariants.{Memory, Read, Script, Module, Rule}
+use Rattle.script_model.specs.Script.{ProgramText, ScriptFault, breaks, too_many}
+use Rattle.script_model.specs.Transcript.{Refusal, usage, out_of_memory, malformed, float, nesting, invalid, limit, reserved, script, read_fault, write_fault, snapshot_limit, snapshot_refused}
+use Rattle.script_setup.specs.Prepared.{IsOfContent, IsUnprepared}
+use Rattle.script_setup.specs.Scripts as H
+use Rattle.script_setup.specs.Scripts.{IsNoScript}
+use Rattle.transcript.specs.Printing.{refusal_of}
+use Rattle.transcript.specs.Refused.{CountsBy, status_of}
+use Rattle.transcript.specs.declared.refusals.Refusal.{Refusal as RefusalValue}
+use Rattle.transcript.proofs.Counts.{refused_counts, unread_counts, wanting_counts}
+use Rattle.vault_port.proofs.Fetching.{read_once}
+use Rattle.transform_command.specs.Sources as S
+use Rattle.transform_command.specs.Sources.{refusal_for}
+use Rattle.script_command.specs.declared.way.Way.{Way}
+use Rattle.script_command.specs.declared.way.Way.TheVariants.{Host, Run}
+use Rattle.script_command.specs.declared.stop.Stop.{Stop}
+use Rattle.script_command.specs.declared.stop.Stop.TheVariants.{Memory, Refused, Sink}
 use Rattle.script_command.specs.Ends.{Call, End, done, memory, sink_fault, refused, read_fault_of, status_of_end, HasEnd, IsWhy, IsStatus}
-use Rattle.script_verdicts.specs.Playing.{Cause, bad_script, bad_module, bad_line, IsBadModule, IsRefused, refusal_of_cause}
-use Rattle.script_verdicts.specs.Views.{Blames}
-use Rattle.script_command.specs.Faults.{IsToldFault}
+use Rattle.script_command.specs.Playing.{Cause, bad_script, bad_module, bad_line, IsBadModule, IsRefused, refusal_of_cause}
+use Rattle.script_command.specs.Views.{Blames, StopsFor}
+use Rattle.script_command.specs.SnapshotViews.{IsToldStop, status_of_stop}
 
 -- ---- refusals of contents
 
@@ -32,6 +36,8 @@ unprepared_content bytes usage h = h
 unprepared_content bytes out_of_memory h = h
 unprepared_content bytes (read_fault name) h = h
 unprepared_content bytes (write_fault name) h = h
+unprepared_content bytes (snapshot_limit found) h = h
+unprepared_content bytes snapshot_refused h = h
 
 cause_content : (c : S.Cause) → IsOfContent (refusal_for c)
 cause_content (S.malformed at) = tt
@@ -50,23 +56,20 @@ fault_content (too_many found) = tt
 content_of : (r s : Refusal) → r ≡ s → IsOfContent s → IsOfContent r
 content_of r s e h = subst IsOfContent (sym e) h
 
-script_content : (bytes : List ℕ) (r : Refusal) → IsNoScript bytes r → IsOfContent r
+pub script_content : (bytes : List ℕ) (r : Refusal) → IsNoScript bytes r → IsOfContent r
 script_content bytes r h = elim h [
   | inl long ↦ content_of r _ long.1 tt
   | inr f ↦ content_of r (H.refusal_for f.0) f.2 (fault_content f.0)
 ]
 
-module_content : (way : Way) (files : Option Files) (t : ProgramText) (r : Refusal) → IsBadModule way files t r → IsOfContent r
+pub module_content : (way : Way) (files : Option Files) (t : ProgramText) (r : Refusal) → IsBadModule way files t r → IsOfContent r
 module_content Host files t r h = unprepared_content h.0 r h.2
-module_content Run files t r h = content_of r (refusal_for h.2.1) h.2.5 (cause_content h.2.1)
+module_content Run files t r h = content_of r (refusal_for h.2.2.0) h.2.2.3 (cause_content h.2.2.0)
 
--- what is told of a fault
-pub told_fault : (way : Way) (files : Option Files) (faults faults' : ℕ) (name : List ℕ) (fault : OpenFault) → Blames way files faults faults' name fault → IsToldFault fault
-told_fault way files faults faults' name Memory h = tt
-told_fault way files faults faults' name (Read read) h = tt
-told_fault way files faults faults' name (Script kind) h = script_content h.0 _ h.2
-told_fault way files faults faults' name (Module number kind) h = module_content way files h.0 _ h.2
-told_fault way files faults faults' name (Rule line rule) h = tt
+pub refused_content : (way : Way) (files : Option Files) (name : List ℕ) (cause : Cause) → IsRefused way files name cause → IsOfContent (refusal_of_cause cause)
+refused_content way files name (bad_script r) h = script_content h.0 r h.2
+refused_content way files name (bad_module number r) h = module_content way files h.0 r h.2
+refused_content way files name (bad_line line rule) h = tt
 
 -- want of memory has a status of its own
 pub never_nine : (r : Refusal) → IsOfContent r → status_of r ≢ 9
@@ -81,6 +84,32 @@ never_nine usage h e = absurd h
 never_nine out_of_memory h e = absurd h
 never_nine (read_fault name) h e = absurd h
 never_nine (write_fault name) h e = absurd h
+never_nine (snapshot_limit found) h e = absurd h
+never_nine snapshot_refused h e = absurd h
+
+-- ---- stops
+
+pub stop_told : (R : RefusalValue → Type 0) (I : List ℕ → Type 0) (files : Option Files) (f f' : ℕ) (stop : Stop) → ((r : RefusalValue) → R r → IsOfContent (refusal_of r.kind))
+    → StopsFor R I files f f' stop → IsToldStop stop
+stop_told R I files f f' Memory content h = tt
+stop_told R I files f f' Sink content h = tt
+stop_told R I files f f' (Refused r) content h = elim h [
+  | inl own ↦ never_nine (refusal_of r.kind) (content r own.0)
+  | inr read ↦ λ nine. let ten = ap status_of read.3.1 in absurd (omega (arith, nine, ten))
+]
+
+pub told_stop : (way : Way) (files : Option Files) (f f' : ℕ) (name : List ℕ) (stop : Stop) → Blames way files f f' name stop → IsToldStop stop
+told_stop way files f f' name stop b = stop_told _ _ files f f' stop (λ r told. subst IsOfContent (sym told.2.1) (refused_content way files name told.0 told.1)) b
+
+-- what has failed of the fetches
+pub stop_counts : (R : RefusalValue → Type 0) (I : List ℕ → Type 0) (files : Option Files) (f f' s s' p p' : ℕ) (stop : Stop) → s' ≡ s → p' ≡ p → StopsFor R I files f f' stop
+    → CountsBy (status_of_stop stop) f f' s s' p p'
+stop_counts R I files f f' s s' p p' Memory saved still h = wanting_counts 9 f f' s s' p p' h saved refl (inl still)
+stop_counts R I files f f' s s' p p' Sink saved still h = absurd h
+stop_counts R I files f f' s s' p p' (Refused r) saved still h = elim h [
+  | inl own ↦ refused_counts (status_of (refusal_of r.kind)) f f' s s' p p' (refusal_of r.kind) own.1 saved (inl refl) (inl still)
+  | inr read ↦ unread_counts (status_of (refusal_of r.kind)) f f' s s' p p' (read_once files read.0 f f' read.2) saved (inl (ap status_of read.3.1)) (inl still)
+]
 
 -- ---- statuses
 
@@ -97,6 +126,8 @@ prepared_status n bytes usage e h = absurd h
 prepared_status n bytes out_of_memory e h = absurd h
 prepared_status n bytes (read_fault name) e h = absurd h
 prepared_status n bytes (write_fault name) e h = absurd h
+prepared_status n bytes (snapshot_limit found) e h = absurd h
+prepared_status n bytes snapshot_refused e h = absurd h
 
 content_status : (n : ℕ) (r : Refusal) → n ≡ status_of r → IsOfContent r → IsStatus Run n
 content_status n (malformed at) e h = inr (inl e)
@@ -110,6 +141,8 @@ content_status n usage e h = absurd h
 content_status n out_of_memory e h = absurd h
 content_status n (read_fault name) e h = absurd h
 content_status n (write_fault name) e h = absurd h
+content_status n (snapshot_limit found) e h = absurd h
+content_status n snapshot_refused e h = absurd h
 
 six : (way : Way) (n : ℕ) → n ≡ 6 → IsStatus way n
 six way n e = inr (inr (inr (inr (inl e))))

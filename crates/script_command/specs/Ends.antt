@@ -1,16 +1,17 @@
 -- How a call of a command that plays a script ends, and why.
 use Rattle.std.specs.Prelude.{◌≡◌, ◌⊎◌, ℕ, List, Option, Some, None}
-use Rattle.vault_port.specs.Counts.{HasRisen}
-use Rattle.vault_port.specs.Files.{Files, IsMissing}
-use Rattle.vault_port.specs.Taken.{Appends, AppendsLess}
+use Rattle.vault_port.specs.Counts.{FailsOnce}
+use Rattle.vault_port.specs.Files.{Files, CannotRead}
+use Rattle.vault_port.specs.Taken.{Appends, AppendsPast}
 use Rattle.vault_port.specs.Told.{Becomes}
-use Rattle.wa_model.specs.Transcript.{read_fault, refusal_line}
+use Rattle.vault_port.specs.declared.whole.PutFault.TheVariants.{Fault, Memory}
+use Rattle.script_model.specs.Transcript.{read_fault, refusal_line}
 use Rattle.event_order.specs.Left.{Counted}
-use Rattle.printing.specs.Refused.{status_of, Prints, PrintsMemory}
-use Rattle.script_verdicts.specs.Way.{Way}
-use Rattle.script_verdicts.specs.Way.TheVariants.{Run}
-use Rattle.script_verdicts.specs.Playing.{Cause, bad_module, Play, IsRefused, IsRead, refusal_of_cause}
-use Rattle.script_command.specs.Transcripts.{IsTranscript, IsBeginning}
+use Rattle.transcript.specs.Refused.{status_of, Prints, PrintsMemoryPast}
+use Rattle.script_command.specs.declared.way.Way.{Way}
+use Rattle.script_command.specs.declared.way.Way.TheVariants.{Run}
+use Rattle.script_command.specs.Playing.{Cause, bad_module, Play, IsRefused, IsRead, refusal_of_cause}
+use Rattle.script_command.specs.Told.{IsBegun, IsTold}
 
 -- A call: its way and its script; the files; the counts of faults, what the sink has taken and the devices, with their counts, before and after it. (The
 -- files stay as they are.)
@@ -66,27 +67,27 @@ status_of_end memory = 9
 status_of_end (read_fault_of name) = 10
 status_of_end sink_fault = 12
 
--- a line that a call may have begun to print: of what is played, of a cause, or of a file that couldn't be read
-abbrev pub IsLine : Call → List ℕ → Type 0
-IsLine c line =
-    ((play : Play c.way c.files c.name) × IsBeginning play c.devices line)
-    ⊎ ((cause : Cause) × IsRefused c.way c.files c.name cause × (line ≡ cause_line cause))
-    ⊎ ((read : List ℕ) × IsRead c.way c.files c.name read × (line ≡ refusal_line None (read_fault read)))
+-- lines that a call may have begun to print, so many of their bytes at least, with what became of the devices: of what is played; or of
+-- a cause, or of a file that couldn't be read, and then they are as they were
+abbrev pub IsLine : Call → (least : ℕ) → List ℕ → Type 0
+IsLine c least line =
+    ((play : Play c.way c.files c.name) × IsBegun Memory play c.devices c.devices' least line)
+    ⊎ ((cause : Cause) × IsRefused c.way c.files c.name cause × (line ≡ cause_line cause) × (least ≡ 0) × (c.devices' ≡ c.devices))
+    ⊎ ((read : List ℕ) × IsRead c.way c.files c.name read × (line ≡ refusal_line None (read_fault read)) × (least ≡ 0) × (c.devices' ≡ c.devices))
 
 -- Why a call has this end, what was printed, and what became of the devices: what is played takes them from those that were there to
--- those that are left, and a refusal leaves them as they were.
+-- those that are left, and under `run` is told of the programs' originals; a refusal leaves them as they were.
 abbrev pub IsWhy : Call → End → Type 0
-IsWhy c done =
-    (play : Play c.way c.files c.name) × Becomes c.taken c.taken' (λ old new. (text : List ℕ) × IsTranscript play c.devices c.devices' text × Appends text old new)
+IsWhy c done = (play : Play c.way c.files c.name) × (text : List ℕ) × IsTold play c.devices c.devices' text × Becomes c.taken c.taken' (Appends text)
 IsWhy c (refused cause) =
     IsRefused c.way c.files c.name cause × Becomes c.taken c.taken' (Prints (cause_line cause) c.sink_faults c.sink_faults') × (c.devices' ≡ c.devices)
-IsWhy c memory = Becomes c.taken c.taken' (λ old new. (line : List ℕ) × IsLine c line × PrintsMemory line old new)
+IsWhy c memory = (least : ℕ) × (line : List ℕ) × IsLine c least line × Becomes c.taken c.taken' (PrintsMemoryPast least line c.sink_faults c.sink_faults')
 IsWhy c (read_fault_of read) =
-    IsRead c.way c.files c.name read × (HasRisen c.fetch_faults c.fetch_faults' ⊎ IsMissing c.files read)
+    IsRead c.way c.files c.name read × CannotRead c.files read c.fetch_faults c.fetch_faults'
     × Becomes c.taken c.taken' (Prints (refusal_line None (read_fault read)) c.sink_faults c.sink_faults') × (c.devices' ≡ c.devices)
 IsWhy c sink_fault =
-    (play : Play c.way c.files c.name) × HasRisen c.sink_faults c.sink_faults'
-    × Becomes c.taken c.taken' (λ old new. (text : List ℕ) × IsBeginning play c.devices text × AppendsLess text old new)
+    (play : Play c.way c.files c.name) × FailsOnce c.sink_faults c.sink_faults'
+    × (least : ℕ) × (text : List ℕ) × IsBegun Fault play c.devices c.devices' least text × Becomes c.taken c.taken' (AppendsPast least text)
 
 -- The call has one end, by its status, and the reason for it.
 pub record HasEnd (c : Call) (status : ℕ) : Type 0 where

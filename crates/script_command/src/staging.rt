@@ -2,15 +2,16 @@
 
 ghost use Rattle.std.specs.Prelude.{◌≡◌, IfOk};
 ghost use Rattle.std.specs.List.{AllZip};
-ghost use Rattle.script_verdicts.specs.Views.{CanStage, parts_of};
-ghost use Rattle.script_verdicts.specs.WorldViews.{AreStaged};
+ghost use Rattle.script_command.specs.Views.{CanStage, parts_of};
+ghost use Rattle.world_hosting.specs.Views.{AreStaged};
 
-use script_verdicts::{Planned, Staged, stage_program};
+use crate::programs::Planned;
 use std::alloc::{AllocError, Global};
 use wasm_validate::Valid;
+use world_hosting::{Staged, stage_program};
 
 /// The programs that are planned over these modules, of which none has told anything.
-pub(crate) fn stage_all<'m>(
+pub fn stage_all<'m>(
     alloc: Global,
     modules: &'m [Valid],
     planned: Vec<Planned>,

@@ -1,11 +1,14 @@
 -- Programs that are told statement by statement are the programs that groups of statements tell.
 use Rattle.std.proofs.Common.{◌≡◌, ℕ, ◌||◌, Bool, true, false, Option, Some, None, Result, Ok, Err, List, [], ◌∷◌, ◌++◌, map, sym, ap, ◌∙◌, refl, append_assoc, append-nil, slice_get}
+use Rattle.std.specs.Option.{option_or}
 use Rattle.std.specs.List.{list_any}
-use Rattle.wa_model.specs.Script.{ProgramText, ScriptFault, breaks}
-use Rattle.wa_model.specs.ScriptLines.{Statement, begins_program, lists_imports, ignores_imports, saves, has_area, has_steps, sets_global, binds, enters, answers, shows, detaches, or_else}
-use Rattle.wa_model.specs.ScriptText.{Numbered, Group, AreaText, told_by, lines_by, list_of_statement, is_ignore, live_of_statement, area_of, steps_of, global_of, bind_of, entry_of}
-use Rattle.wa_model.specs.ScriptText.{answer_of, show_of, with_program, programs_of}
-use Rattle.script_reader.specs.Drafts.{Draft, begun, more_told, told_with, one_more, closed}
+use Rattle.script_model.specs.Script.{EntryText, ProgramText, ScriptFault, StrandText, breaks}
+use Rattle.wa_model.specs.Outside.{AnswerLine}
+use Rattle.script_model.specs.ScriptLines.{Statement, begins_program, lists_imports, ignores_imports, saves, has_area, has_steps, sets_global, binds, enters, answers, shows, detaches, has_mailbox, begins_strand}
+use Rattle.script_model.specs.ScriptText.{Numbered, Group, AreaText, Stranded, stranded, strand_of, told_by, lines_by, list_of_statement, is_ignore, live_of_statement, area_of, steps_of, global_of, bind_of, entry_of}
+use Rattle.script_model.specs.ScriptText.{answer_of, show_of, with_program, programs_of}
+use Rattle.script_reader.specs.Drafts.{Draft, begun, more_told, with_entry, with_answer, entry_behind, answer_behind, to_first, on_last, told_with, one_more, closed}
+use Rattle.script_reader.proofs.StrandLists.{grown, twice, same_last, at_end, first_kept, first_none, first_more, first_behind, grown_none, grown_entry, grown_answer}
 
 abbrev pub folded : Draft → List Numbered → Draft
 folded d [] = d
@@ -18,28 +21,33 @@ abbrev pub all_closed : Result (List ProgramText) ScriptFault → List Draft →
 all_closed r [] = r
 all_closed r (d ∷ ds) = all_closed (closed r d) ds
 
+-- what more statements tell of a program's strands: more of the last one, and those behind it
+abbrev strands_more : List StrandText → Stranded → List StrandText
+strands_more ss g = on_last (grown (lines_by entry_of g.first) (told_by answer_of g.first)) ss ++ map strand_of g.strands
+
 -- a program and what more statements tell of it, kind by kind
 abbrev told_more : Draft → List Numbered → Draft
 told_more d ss = record {
   line = d.line;
   path = d.path;
-  list = or_else d.list (slice_get (told_by list_of_statement ss) 0);
+  list = option_or d.list (slice_get (told_by list_of_statement ss) 0);
   ignore_imports = d.ignore_imports || list_any (λ (s : Numbered). is_ignore s.says) ss;
-  policy_live = or_else d.policy_live (slice_get (told_by live_of_statement ss) 0);
-  area = or_else d.area (slice_get (lines_by area_of ss) 0);
-  steps = or_else d.steps (slice_get (told_by steps_of ss) 0);
+  policy_live = option_or d.policy_live (slice_get (told_by live_of_statement ss) 0);
+  area = option_or d.area (slice_get (lines_by area_of ss) 0);
+  steps = option_or d.steps (slice_get (told_by steps_of ss) 0);
   globals = d.globals ++ lines_by global_of ss;
-  binds = d.binds ++ told_by bind_of ss;
-  entries = d.entries ++ lines_by entry_of ss;
-  answers = d.answers ++ told_by answer_of ss;
+  binds = d.binds ++ lines_by bind_of ss;
+  entries = to_first d.strands d.entries (lines_by entry_of (stranded ss).first);
+  answers = to_first d.strands d.answers (told_by answer_of (stranded ss).first);
   shows = d.shows ++ lines_by show_of ss;
+  strands = strands_more d.strands (stranded ss);
 }
 
-or_else_none : {A : Type 0} (o : Option A) → or_else o None ≡ o
+or_else_none : {A : Type 0} (o : Option A) → option_or o None ≡ o
 or_else_none None = refl
 or_else_none (Some x) = refl
 
-or_else_one : {A : Type 0} (o : Option A) (x : A) (xs : List A) → or_else (or_else o (Some x)) (slice_get xs 0) ≡ or_else o (slice_get (x ∷ xs) 0)
+or_else_one : {A : Type 0} (o : Option A) (x : A) (xs : List A) → option_or (option_or o (Some x)) (slice_get xs 0) ≡ option_or o (slice_get (x ∷ xs) 0)
 or_else_one None x xs = refl
 or_else_one (Some y) x xs = refl
 
@@ -62,9 +70,51 @@ told_nothing d = λ i. record {
   steps = or_else_none d.steps i;
   globals = append-nil d.globals i;
   binds = append-nil d.binds i;
-  entries = append-nil d.entries i;
-  answers = append-nil d.answers i;
+  entries = first_none d.strands d.entries i;
+  answers = first_none d.strands d.answers i;
   shows = append-nil d.shows i;
+  strands = (append-nil _ ∙ same_last (grown [] []) grown_none d.strands) i;
+}
+
+-- an entry more of the strand that is told
+entry_one : (e : EntryText) (d : Draft) (ss : List Numbered) → told_more (with_entry e d) ss ≡ told_more d (record { line = e.line; says = enters e.name e.args } ∷ ss)
+entry_one e d ss = λ i. record (told_more d ss) {
+  entries = (first_kept (entry_behind e) d.strands (to_first d.strands d.entries (e ∷ [])) (lines_by entry_of (stranded ss).first) ∙ first_more d.strands d.entries e (lines_by entry_of (stranded ss).first)) i;
+  answers = first_kept (entry_behind e) d.strands d.answers (told_by answer_of (stranded ss).first) i;
+  strands =
+      twice (grown (lines_by entry_of (stranded ss).first) (told_by answer_of (stranded ss).first)) (entry_behind e)
+      (grown (e ∷ lines_by entry_of (stranded ss).first) (told_by answer_of (stranded ss).first))
+      (grown_entry e (lines_by entry_of (stranded ss).first) (told_by answer_of (stranded ss).first)) d.strands i ++ map strand_of (stranded ss).strands;
+}
+
+-- an answer more of it
+answer_one : (line : ℕ) (a : AnswerLine) (d : Draft) (ss : List Numbered) → told_more (with_answer a d) ss ≡ told_more d (record { line = line; says = answers a } ∷ ss)
+answer_one line a d ss = λ i. record (told_more d ss) {
+  entries = first_kept (answer_behind a) d.strands d.entries (lines_by entry_of (stranded ss).first) i;
+  answers = (first_kept (answer_behind a) d.strands (to_first d.strands d.answers (a ∷ [])) (told_by answer_of (stranded ss).first) ∙ first_more d.strands d.answers a (told_by answer_of (stranded ss).first)) i;
+  strands =
+      twice (grown (lines_by entry_of (stranded ss).first) (told_by answer_of (stranded ss).first)) (answer_behind a)
+      (grown (lines_by entry_of (stranded ss).first) (a ∷ told_by answer_of (stranded ss).first))
+      (grown_answer a (lines_by entry_of (stranded ss).first) (told_by answer_of (stranded ss).first)) d.strands i ++ map strand_of (stranded ss).strands;
+}
+
+-- a strand begins behind these, of which these statements are told
+abbrev begun_strand : (line at len : ℕ) → StrandText
+begun_strand line at len = record { line = line; area = record { at = at; len = len }; entries = []; answers = [] }
+
+strands_one : (line at len : ℕ) (ss : List StrandText) (g : Stranded)
+    → strands_more (ss ++ begun_strand line at len ∷ []) g
+    ≡ on_last (grown [] []) ss ++ map strand_of (record { line = line; area = record { at = at; len = len }; told = g.first } ∷ g.strands)
+strands_one line at len ss g =
+    ap (λ (l : List StrandText). l ++ map strand_of g.strands) (at_end (grown (lines_by entry_of g.first) (told_by answer_of g.first)) ss (begun_strand line at len))
+    ∙ append_assoc ss _ (map strand_of g.strands)
+    ∙ ap (λ (l : List StrandText). l ++ map strand_of (record { line = line; area = record { at = at; len = len }; told = g.first } ∷ g.strands)) (sym (same_last (grown [] []) grown_none ss))
+
+strand_one : (line at len : ℕ) (d : Draft) (ss : List Numbered) → told_more (more_told line (begins_strand at len) d) ss ≡ told_more d (record { line = line; says = begins_strand at len } ∷ ss)
+strand_one line at len d ss = λ i. record (told_more d ss) {
+  entries = (first_behind d.strands (begun_strand line at len) d.entries (lines_by entry_of (stranded ss).first) ∙ sym (first_none d.strands d.entries)) i;
+  answers = (first_behind d.strands (begun_strand line at len) d.answers (told_by answer_of (stranded ss).first) ∙ sym (first_none d.strands d.answers)) i;
+  strands = strands_one line at len d.strands (stranded ss) i;
 }
 
 told_one : (line : ℕ) (s : Statement) (d : Draft) (ss : List Numbered) → told_more (more_told line s d) ss ≡ told_more d (record { line = line; says = s } ∷ ss)
@@ -75,11 +125,13 @@ told_one line (saves live) d ss = ap (λ o. record (told_more d ss) { policy_liv
 told_one line (has_area at len) d ss = ap (λ o. record (told_more d ss) { area = o }) (or_else_one d.area _ (lines_by area_of ss))
 told_one line (has_steps n) d ss = ap (λ o. record (told_more d ss) { steps = o }) (or_else_one d.steps n (told_by steps_of ss))
 told_one line (sets_global name value) d ss = ap (λ xs. record (told_more d ss) { globals = xs }) (append_assoc d.globals _ (lines_by global_of ss))
-told_one line (binds import device) d ss = ap (λ xs. record (told_more d ss) { binds = xs }) (append_assoc d.binds _ (told_by bind_of ss))
-told_one line (enters name args) d ss = ap (λ xs. record (told_more d ss) { entries = xs }) (append_assoc d.entries _ (lines_by entry_of ss))
-told_one line (answers answer) d ss = ap (λ xs. record (told_more d ss) { answers = xs }) (append_assoc d.answers _ (told_by answer_of ss))
+told_one line (binds import device) d ss = ap (λ xs. record (told_more d ss) { binds = xs }) (append_assoc d.binds _ (lines_by bind_of ss))
+told_one line (enters name args) d ss = entry_one (record { line = line; name = name; args = args }) d ss
+told_one line (answers answer) d ss = answer_one line answer d ss
 told_one line (shows at len) d ss = ap (λ xs. record (told_more d ss) { shows = xs }) (append_assoc d.shows _ (lines_by show_of ss))
 told_one line (detaches device before) d ss = refl
+told_one line (has_mailbox name) d ss = refl
+told_one line (begins_strand at len) d ss = strand_one line at len d ss
 
 folded_is : (ss : List Numbered) (d : Draft) → folded d ss ≡ told_more d ss
 folded_is [] d = sym (told_nothing d)

@@ -1,8 +1,8 @@
 -- One line more of a text.
 use Rattle.std.proofs.Common.{◌≡◌, ℕ, suc, ◌+◌, Result, Ok, Err, List, ◌∷◌, sym, ap, ◌∙◌, subst, add-one, IsErrAnd}
 use Rattle.std.specs.Str.Lines.{lines}
-use Rattle.wa_model.specs.Script.{Script as PlainScript, ScriptFault as PlainFault, breaks, too_many}
-use Rattle.wa_model.specs.ScriptLines.{line_says}
+use Rattle.script_model.specs.Script.{Script as PlainScript, ScriptFault as PlainFault, breaks, too_many}
+use Rattle.script_model.specs.ScriptLines.{line_says}
 use Rattle.script_reader.specs.declared.faults.ScriptFault.{ScriptFault}
 use Rattle.script_reader.specs.declared.faults.ScriptFault.TheVariants.{Memory, Rule, TooMany}
 use Rattle.script_reader.specs.Drafts.{Reading, with_line, and_then, read_on}

@@ -3,20 +3,22 @@ use Rattle.std.specs.Prelude.{◌≡◌, ℕ, [], ◌∷◌, ◌++◌, List, Opt
 use Rattle.std.specs.Option.{option_map}
 use Rattle.wa_model.specs.declared.answers.Detach.{Detach}
 use Rattle.wa_model.specs.View.{answer_line_of}
-use Rattle.wa_model.specs.ScriptText.{AreaText}
-use Rattle.wa_model.specs.Script as T
+use Rattle.script_model.specs.ScriptText.{AreaText}
+use Rattle.script_model.specs.Script as T
 use Rattle.script_reader.specs.declared.faults.ScriptFault.{ScriptFault}
 use Rattle.script_reader.specs.declared.faults.ScriptFault.TheVariants.{Memory, Rule, TooMany}
 use Rattle.script_reader.specs.declared.script.GlobalText.{GlobalText}
 use Rattle.script_reader.specs.declared.script.BindText.{BindText}
 use Rattle.script_reader.specs.declared.script.EntryText.{EntryText}
 use Rattle.script_reader.specs.declared.script.ShowText.{ShowText}
+use Rattle.script_reader.specs.declared.script.StrandText.{StrandText}
 use Rattle.script_reader.specs.declared.script.ProgramText.{ProgramText}
 use Rattle.script_reader.specs.declared.script.Script.{Script}
 use Rattle.script_reader.specs.declared.drafts.Draft.{Draft}
 use Rattle.script_reader.specs.declared.drafts.AreaLine.{AreaLine}
 use Rattle.script_reader.specs.declared.reading.Reading.{Reading}
 use Rattle.script_reader.specs.Drafts as D
+pub use Rattle.script_reader.specs.MailboxNames.{mailbox_of}
 
 -- a line of globals
 abbrev pub global_of : GlobalText → T.GlobalText
@@ -24,7 +26,7 @@ global_of g = record { line = g.line; name = g.name; value = g.value }
 
 -- a line of a device
 abbrev pub bind_of : BindText → T.BindText
-bind_of b = record { import = b.import; device = b.device }
+bind_of b = record { line = b.line; import = b.import; device = b.device }
 
 -- a line of an entry
 abbrev pub entry_of : EntryText → T.EntryText
@@ -37,6 +39,10 @@ show_of s = record { line = s.line; at = s.at; len = s.len }
 -- a device that is taken out
 abbrev pub detach_of : Detach → T.DetachText
 detach_of d = record { device = d.device; before = d.before }
+
+-- a further strand
+abbrev pub strand_of : StrandText → T.StrandText
+strand_of s = record { line = s.line; area = s.area; entries = map entry_of s.entries.items; answers = map answer_line_of s.answers.items }
 
 -- a program
 abbrev pub program_of : ProgramText → T.ProgramText
@@ -54,11 +60,12 @@ program_of p = record {
   entries = map entry_of p.entries.items;
   answers = map answer_line_of p.answers.items;
   shows = map show_of p.shows.items;
+  strands = map strand_of p.strands.items;
 }
 
 -- a script
 abbrev pub script_of : Script → T.Script
-script_of s = record { programs = map program_of s.programs.items; detaches = map detach_of s.detaches.items }
+script_of s = record { programs = map program_of s.programs.items; detaches = map detach_of s.detaches.items; mailboxes = map mailbox_of s.mailboxes.items }
 
 -- ---- while lines are read
 
@@ -81,6 +88,7 @@ draft_of d = record {
   entries = map entry_of d.entries.items;
   answers = map answer_line_of d.answers.items;
   shows = map show_of d.shows.items;
+  strands = map strand_of d.strands.items;
 }
 
 -- the programs, unless one at this line lacks its area
@@ -90,7 +98,7 @@ programs_of (Some line) programs = Err (T.breaks line 7)
 
 -- what is known of a script so far
 abbrev pub reading_of : Reading → D.Reading
-reading_of r = record { programs = programs_of r.missing r.programs.items; count = r.count; current = option_map draft_of r.current; detached = map detach_of r.detaches.items }
+reading_of r = record { programs = programs_of r.missing r.programs.items; count = r.count; current = option_map draft_of r.current; detached = map detach_of r.detaches.items; mailboxes = r.mailboxes }
 
 -- ---- answers
 

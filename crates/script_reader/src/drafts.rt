@@ -2,24 +2,27 @@
 
 ghost use Rattle.std.specs.Prelude.{◌≡◌, ◌∷◌, ◌++◌, [], OnOk, Result, Some, ℕ, None, List, if◌then◌else◌};
 ghost use Rattle.wa_types.specs.Pausing.{list_of};
-ghost use Rattle.wa_model.specs.Script.{ProgramText as PlainProgram, breaks};
-ghost use Rattle.wa_model.specs.ScriptLines.{answers, binds, enters, has_area, has_steps, ignores_imports, lists_imports, saves, sets_global, shows};
-ghost use Rattle.wa_model.specs.ScriptText.{is_error};
+ghost use Rattle.script_model.specs.Script.{ProgramText as PlainProgram, breaks};
+ghost use Rattle.script_model.specs.ScriptLines.{answers, begins_strand, binds, enters, has_area, has_steps, ignores_imports, lists_imports, saves, sets_global, shows};
+ghost use Rattle.script_model.specs.ScriptText.{is_error};
 ghost use Rattle.wa_model.specs.View.{answer_line_of};
-ghost use Rattle.script_lines.specs.Statements.{statement_of};
+ghost use Rattle.script_reader.specs.Statements.{statement_of};
 ghost use Rattle.script_reader.specs.Drafts.{begun, on_program, one_more, or_fault};
 ghost use Rattle.script_reader.specs.Views.{Reads, draft_of, finished_as};
 
 use crate::faults::ScriptFault;
-use crate::script::{BindText, EntryText, GlobalText, ProgramText, ShowText};
+use crate::script::{BindText, EntryText, GlobalText, ProgramText, ShowText, StrandText};
+use crate::statements::Statement;
 use call_graph::{ImportList, ListFault};
-use script_lines::Statement;
 use std::alloc::{AllocError, Global};
 use wa_model::{AnswerLine, Area};
 use wa_types::{Name, Value};
 
 // The steps of a program that tells none.
 const DEFAULT_STEPS: u64 = 100_000_000;
+
+// A program has at most so many strands, its first among them.
+const MOST_STRANDS: usize = 16;
 
 /// An area and the line that tells it.
 #[derive(Clone, Copy)]
@@ -43,6 +46,7 @@ pub(crate) struct Draft {
     pub entries: Vec<EntryText>,
     pub answers: Vec<AnswerLine>,
     pub shows: Vec<ShowText>,
+    pub strands: Vec<StrandText>,
 }
 
 /// A program that begins at this line.
@@ -62,6 +66,7 @@ pub(crate) fn begin_draft(alloc: Global, line: u32, path: Name) -> Draft
         entries: Vec::new(alloc),
         answers: Vec::new(alloc),
         shows: Vec::new(alloc),
+        strands: Vec::new(alloc),
     }
 }
 
@@ -87,6 +92,8 @@ pub(crate) fn put_statement(
         Statement::Answer(answer) => put_answer(draft, line, answer),
         Statement::Show { at, len } => put_show(draft, line, at, len),
         Statement::Detach(_) => Ok(()),
+        Statement::Mailbox(_) => Ok(()),
+        Statement::Strand(area) => put_strand(alloc, draft, line, area),
     }
 }
 
@@ -170,20 +177,38 @@ fn put_global(draft: &mut Draft, line: u32, name: Name, value: Value) -> Result<
 fn put_bind(draft: &mut Draft, line: u32, import: Name, device: Name) -> Result<(), ScriptFault>
     ensures { Reads (λ _. draft_of draft.new) result (on_program line (binds import device) (Some (draft_of draft.old))) }
 {
-    put(&mut draft.binds, BindText { import, device })?;
+    put(
+        &mut draft.binds,
+        BindText {
+            line,
+            import,
+            device,
+        },
+    )?;
     Ok(())
 }
 
+// An entry belongs to the strand that is being told.
 fn put_entry(draft: &mut Draft, line: u32, name: Name, args: Vec<Value>) -> Result<(), ScriptFault>
     ensures { Reads (λ _. draft_of draft.new) result (on_program line (enters name args.items) (Some (draft_of draft.old))) }
 {
-    put(&mut draft.entries, EntryText { line, name, args })?;
+    let entry = EntryText { line, name, args };
+    if let Some(strand) = draft.strands.last_mut() {
+        put(&mut strand.entries, entry)?;
+        return Ok(());
+    }
+    put(&mut draft.entries, entry)?;
     Ok(())
 }
 
+// And so does an answer.
 fn put_answer(draft: &mut Draft, line: u32, answer: AnswerLine) -> Result<(), ScriptFault>
     ensures { Reads (λ _. draft_of draft.new) result (on_program line (answers (answer_line_of answer)) (Some (draft_of draft.old))) }
 {
+    if let Some(strand) = draft.strands.last_mut() {
+        put(&mut strand.answers, answer)?;
+        return Ok(());
+    }
     put(&mut draft.answers, answer)?;
     Ok(())
 }
@@ -192,6 +217,22 @@ fn put_show(draft: &mut Draft, line: u32, at: u32, len: u32) -> Result<(), Scrip
     ensures { Reads (λ _. draft_of draft.new) result (on_program line (shows at len) (Some (draft_of draft.old))) }
 {
     put(&mut draft.shows, ShowText { line, at, len })?;
+    Ok(())
+}
+
+fn put_strand(alloc: Global, draft: &mut Draft, line: u32, area: Area) -> Result<(), ScriptFault>
+    ensures { Reads (λ _. draft_of draft.new) result (on_program line (begins_strand area.at area.len) (Some (draft_of draft.old))) }
+{
+    if draft.strands.len() + 1 == MOST_STRANDS {
+        return Err(ScriptFault::Rule { line, rule: 3 });
+    }
+    let strand = StrandText {
+        line,
+        area,
+        entries: Vec::new(alloc),
+        answers: Vec::new(alloc),
+    };
+    put(&mut draft.strands, strand)?;
     Ok(())
 }
 
@@ -226,5 +267,6 @@ pub(crate) fn finished(draft: Draft) -> Result<ProgramText, u32>
         entries: draft.entries,
         answers: draft.answers,
         shows: draft.shows,
+        strands: draft.strands,
     })
 }

@@ -2,17 +2,20 @@
 
 ghost use Rattle.std.specs.Prelude.{◌≡◌, ◌≤◌, length, OnOk};
 ghost use Rattle.std.specs.Option.{option_map};
-ghost use Rattle.wa_model.specs.ScriptLines.{line_says};
-ghost use Rattle.wa_model.specs.ScriptText.{script_text};
-ghost use Rattle.script_lines.specs.Statements.{line_of, statement_of};
-ghost use Rattle.script_reader.specs.Drafts.{closed, closed_last, ended, nothing_read, with_line, with_program, with_statement};
+ghost use Rattle.script_model.specs.ScriptLines.{line_says};
+ghost use Rattle.script_model.specs.Script.{strand_line};
+ghost use Rattle.script_model.specs.ScriptText.{mixed_line, script_text, unless_mixed};
+ghost use Rattle.script_reader.specs.Statements.{line_of, statement_of};
+ghost use Rattle.script_reader.specs.Drafts.{closed, closed_last, ended, nothing_read, on_mailboxes, with_line, with_program, with_statement};
 ghost use Rattle.script_reader.specs.Views.{Reads, draft_of, programs_of, reading_of, script_of};
 
 use crate::drafts::{Draft, begin_draft, finished, put, put_statement as put_into};
 use crate::faults::ScriptFault;
 use crate::lines::first_line;
-use crate::script::{ProgramText, Script};
-use script_lines::{LineFault, Statement, read_line as read_statement};
+use crate::mailboxes::Mailboxes;
+use crate::script::{MailboxText, ProgramText, Script, strand_line};
+use crate::statements::{Statement, read_line as read_statement};
+use crate::word_fault::LineFault;
 use std::alloc::{AllocError, Global};
 use wa_model::Detach;
 use wa_types::Name;
@@ -21,7 +24,7 @@ use wa_types::Name;
 const MOST_PROGRAMS: u32 = 16;
 
 /// What is known of a script: the programs before the one that is being told, the line of the first of them that lacks its
-/// area, how many were begun, the one that is being told, and the devices that are taken out.
+/// area, how many were begun, the one that is being told, the devices that are taken out, and the mailboxes.
 #[derive(Drop)]
 struct Reading {
     programs: Vec<ProgramText>,
@@ -29,9 +32,10 @@ struct Reading {
     count: u32,
     current: Option<Draft>,
     detaches: Vec<Detach>,
+    mailboxes: Mailboxes,
 }
 
-/// The script that a text of at most 1,048,576 bytes is, or its first fault. Takes time linear in the text.
+/// The script that a text of at most 1,048,576 bytes is, or its first fault. Takes time near linear in the text.
 pub fn read_script(alloc: Global, bytes: &[u8]) -> Result<Script, ScriptFault>
     requires { length bytes.now ≤ 1_048_576 }
     ensures { Reads script_of result (script_text bytes.now) }
@@ -57,6 +61,7 @@ fn nothing_read(alloc: Global) -> Reading
         count: 0,
         current: None,
         detaches: Vec::new(alloc),
+        mailboxes: Mailboxes::none(alloc),
     }
 }
 
@@ -90,6 +95,7 @@ fn put_statement(
             put(&mut reading.detaches, detach)?;
             Ok(())
         }
+        Statement::Mailbox(name) => declare(alloc, &mut reading.mailboxes, line, name),
         told => match &mut reading.current {
             None => Err(ScriptFault::Rule { line, rule: 5 }),
             Some(draft) => put_into(alloc, draft, line, told),
@@ -114,6 +120,22 @@ fn begin_program(
     close_last(&mut reading.programs, &mut reading.missing, last)?;
     reading.count += 1;
     reading.current = Some(begin_draft(alloc, line, path));
+    Ok(())
+}
+
+// One more mailbox, unless its name is declared before.
+fn declare(
+    alloc: Global,
+    mailboxes: &mut Mailboxes,
+    line: u32,
+    name: Name,
+) -> Result<(), ScriptFault>
+    ensures { Reads (λ _. mailboxes.new) result (on_mailboxes line name mailboxes.old) }
+{
+    if mailboxes.declares(name.as_str()) {
+        return Err(ScriptFault::Rule { line, rule: 17 });
+    }
+    mailboxes.put(alloc, MailboxText { line, name })?;
     Ok(())
 }
 
@@ -160,10 +182,35 @@ fn ended(reading: Reading) -> Result<Script, ScriptFault>
         count: _,
         current,
         detaches,
+        mailboxes,
     } = reading;
     close_last(&mut programs, &mut missing, current)?;
     match missing {
         Some(line) => Err(ScriptFault::Rule { line, rule: 7 }),
-        None => Ok(Script { programs, detaches }),
+        None => unless_mixed(Script {
+            programs,
+            detaches,
+            mailboxes: mailboxes.into_texts(),
+        }),
     }
+}
+
+// A script, unless it has a mailbox and a further strand both.
+fn unless_mixed(script: Script) -> Result<Script, ScriptFault>
+    ensures { Reads script_of result (unless_mixed (mixed_line (script_of script).mailboxes (strand_line (script_of script))) (script_of script)) }
+{
+    match mixed_line(&script) {
+        Some(line) => Err(ScriptFault::Rule { line, rule: 20 }),
+        None => Ok(script),
+    }
+}
+
+// The first line that begins a further strand, where there is a mailbox besides.
+fn mixed_line(script: &Script) -> Option<u32>
+    ensures { result ≡ mixed_line (script_of script.now).mailboxes (strand_line (script_of script.now)) }
+{
+    if script.mailboxes.is_empty() {
+        return None;
+    }
+    strand_line(script)
 }

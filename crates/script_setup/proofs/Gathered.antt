@@ -1,5 +1,5 @@
 -- Lists that are gathered item by item.
-use Rattle.std.proofs.Common.{◌≡◌, ℕ, ◌+◌, ◌<◌, ◌≤◌, List, [], ◌∷◌, ◌++◌, length, map, get_or, take, Option, Some, None, ap, sym, ◌∙◌, refl}
+use Rattle.std.proofs.Common.{arith, ◌≡◌, ℕ, zero, suc, ◌+◌, ◌<◌, ◌≤◌, List, [], ◌∷◌, ◌++◌, length, map, get_or, take, drop, drop-cons, add-one, Option, ap, sym, ◌∙◌, refl}
 use Rattle.std.specs.List.{filter_map}
 use Rattle.std.proofs.lemmas.List.{map_more, map-append, take_all, take_more}
 use Rattle.std.proofs.lemmas.List.Elements.{filter_map-append}
@@ -33,3 +33,15 @@ filter_next f old new ys i y is h at before =
 
 pub filter_all : {X Y : Type 0} (f : X → Option Y) (a : List Y) (xs : List X) (i : ℕ) → length xs ≤ i → a ≡ filter_map f (take i xs) → a ≡ filter_map f xs
 filter_all f a xs i h e = e ∙ ap (filter_map f) (take_all i xs h)
+
+-- ---- what is left of a list
+
+-- the next item
+pub front_is : {X : Type 0} (xs : List X) (i : ℕ) (x : X) → i < length xs → x ≡ get_or xs i x → drop i xs ≡ x ∷ drop (i + 1) xs
+front_is xs i x lt e = drop-cons xs i x lt ∙ ap (λ y. y ∷ drop (suc i) xs) (sym e) ∙ ap (λ n. x ∷ drop n xs) (sym (add-one i))
+
+pub all_gone : {X : Type 0} (xs : List X) (i : ℕ) → length xs ≤ i → drop i xs ≡ []
+all_gone [] zero le = refl
+all_gone [] (suc i) le = refl
+all_gone (x ∷ xs) zero le = let no_way : ⊥ = omega (arith, le) in absurd no_way
+all_gone (x ∷ xs) (suc i) le = all_gone xs i (omega (arith, le))

@@ -1,6 +1,6 @@
 -- Tables of imported globals and of the lines that set them, one more item behind those before it.
 use Rattle.std.proofs.Common.{◌≡◌, ℕ, ◌+◌, ◌<◌, ◌≤◌, List, [], ◌∷◌, ◌++◌, length, map, get_or, take, Option, Some, None, Bool, true, false, cond, ◌||◌, ◌&&◌, not, ap, sym, ◌∙◌, refl, if◌then◌else◌}
-use Rattle.std.specs.List.{list_any, filter_map, cons_option}
+use Rattle.std.specs.List.{filter_map, cons_option}
 use Rattle.std.specs.Str.{bytes_eq}
 use Rattle.std.proofs.lemmas.List.{take_more, take_all, map_more}
 use Rattle.std.proofs.lemmas.List.Folds.{list_any-append}
@@ -9,7 +9,7 @@ use Rattle.std.specs.declared.alloc.Global.{Global}
 use Rattle.std.specs.Borrow.{Bor}
 use Rattle.std.specs.BTreeMap.{BTreeMap, UpdatesBy, get_by_text}
 use Rattle.std.specs.Cmp.Lexicographic.{slice_cmp}
-use Rattle.std.specs.Option.{unwrap_or}
+use Rattle.std.specs.Option.{option_or, unwrap_or}
 use Rattle.std.specs.Ordering.{nat_cmp}
 use Rattle.std.specs.String.{string_bytes, string_cmp}
 use Rattle.std.proofs.lemmas.Map.Text.{btree_map_updates_str, btree_map_updates_text}
@@ -23,12 +23,11 @@ use Rattle.wa_types.specs.Encoding.{same_type}
 use Rattle.wa_types.specs.Modules.{imported_global}
 use Rattle.wa_types.specs.Pausing.{joined_name}
 use Rattle.wa_types.specs.Typing.{GlobalType, type_of}
-use Rattle.wa_model.specs.Script.{GlobalText}
-use Rattle.wa_model.specs.ScriptLines.{or_else}
+use Rattle.script_model.specs.Script.{GlobalText}
 use Rattle.script_reader.specs.declared.script.GlobalText.{GlobalText as GlobalValue}
 use Rattle.script_reader.specs.Views.{global_of}
 use Rattle.script_setup.specs.declared.globals.Types.{Types}
-use Rattle.script_setup.specs.SetUpRules.{has_type, is_global, imports_global, is_set, last_value, other_type, value_or_zero, global_values}
+use Rattle.script_setup.specs.SetUpRules.{has_type, is_global, imports_global, is_set, last_value, other_type, value_or_zero}
 use Rattle.script_setup.specs.Tables.{no_types, types_in, value_in, with_type, with_global, types_of, is_lawful}
 
 -- ---- types
@@ -77,14 +76,14 @@ lawful_is_set imports g = by_value g.value where
 
 last_more : (name : List ℕ) (gs : List GlobalText) (g : GlobalText) → last_value name (gs ++ g ∷ []) ≡ (if bytes_eq g.name name then Some g.value else last_value name gs)
 last_more name [] g = by_test (bytes_eq g.name name) where
-  by_test : (b : Bool) → or_else None (if b then Some g.value else None) ≡ (if b then Some g.value else None)
+  by_test : (b : Bool) → option_or None (if b then Some g.value else None) ≡ (if b then Some g.value else None)
   by_test true = refl
   by_test false = refl
-last_more name (x ∷ gs) g = ap (λ (o : Option Value). or_else o (own x)) (last_more name gs g) ∙ by_test (bytes_eq g.name name) where
+last_more name (x ∷ gs) g = ap (λ (o : Option Value). option_or o (own x)) (last_more name gs g) ∙ by_test (bytes_eq g.name name) where
   own : GlobalText → Option Value
   own y = if bytes_eq y.name name then Some y.value else None
 
-  by_test : (b : Bool) → or_else (if b then Some g.value else last_value name gs) (own x) ≡ (if b then Some g.value else or_else (last_value name gs) (own x))
+  by_test : (b : Bool) → option_or (if b then Some g.value else last_value name gs) (own x) ≡ (if b then Some g.value else option_or (last_value name gs) (own x))
   by_test true = refl
   by_test false = refl
 

@@ -1,10 +1,9 @@
 -- The values that a program's imported globals are given have their types.
-use Rattle.std.proofs.Common.{◌≡◌, ℕ, suc, ◌+◌, ◌<◌, List, [], ◌∷◌, length, map, Option, Some, None, Bool, true, false, ◌||◌, ◌&&◌, not, cond, ap, sym, ◌∙◌, refl, subst, if◌then◌else◌}
-use Rattle.std.proofs.Common.{position, arith, nat_lt, Result, Ok, Err}
-use Rattle.std.specs.List.{list_any, filter_map, cons_option, position_or_len}
-use Rattle.std.specs.Option.{unwrap_or}
+use Rattle.std.proofs.Common.{◌≡◌, ℕ, List, [], ◌∷◌, map, Option, Some, None, Bool, true, false, ◌||◌, ◌&&◌, not, ap, sym, ◌∙◌, refl, if◌then◌else◌}
+use Rattle.std.proofs.Common.{Result, Ok, Err}
+use Rattle.std.specs.List.{list_any, filter_map, cons_option}
+use Rattle.std.specs.Option.{option_or, unwrap_or}
 use Rattle.std.specs.Str.{bytes_eq}
-use Rattle.std.proofs.lemmas.Bool.{lt-ltb, le-ltb, ltb-true, ltb-false}
 use Rattle.std.proofs.lemmas.Slice.Eq.{bytes_eq-Decides}
 use Rattle.wa_types.specs.declared.values.ValType.{ValType}
 use Rattle.wa_types.specs.declared.values.ValType.TheVariants.{I32, I64}
@@ -15,37 +14,21 @@ use Rattle.wa_types.specs.Modules.{imported, imported_global}
 use Rattle.wa_types.specs.Pausing.{joined_name}
 use Rattle.wa_types.specs.Syntax.{Module}
 use Rattle.wa_types.specs.Typing.{GlobalType, type_of}
-use Rattle.wa_model.specs.Fitting.{types_of, global_types}
-use Rattle.wa_model.specs.Script.{GlobalText, ProgramText, ScriptFault}
-use Rattle.wa_model.specs.ScriptLines.{or_else}
+use Rattle.run_theory.specs.Fitting.{types_of, global_types}
+use Rattle.script_model.specs.Script.{GlobalText, ProgramText}
 use Rattle.wa_model.specs.Step.{zero_of}
 use Rattle.host_setup.specs.SetUp as H
+use Rattle.script_setup.proofs.FirstPlaces.{none_found}
 use Rattle.script_setup.specs.SetUpRules.{SetUp, has_type, is_global, imports_global, is_set, other_type, bad_global, last_value, value_or_zero, global_values, told_at, global_line}
-use Rattle.script_setup.specs.SetUpRules.{show_line, bad_show, lines_fault, unless_told, told_funcs, with_lines, set_up_rules, named_entry}
+use Rattle.script_setup.specs.SetUpRules.{show_line, bad_show, unless_told, told_funcs, told_line, misbound_line, with_lines, set_up_rules, named_entry, asked_area, entries_in, overlap_line}
 
 -- ---- no line is bad
 
-first_step : (b : Bool) (i n : ℕ) (c : Bool) → nat_lt i n ≡ c → nat_lt (cond (not b) (1 + i) 0) (suc n) ≡ (b || c)
-first_step true i n c h = lt-ltb 0 (suc n) (omega arith)
-first_step false i n true h = let k = ltb-true i n h in lt-ltb (1 + i) (suc n) (omega arith)
-first_step false i n false h = let k = ltb-false i n h in le-ltb (1 + i) (suc n) (omega arith)
-
-found_first : {X : Type 0} (p : X → Bool) (xs : List X) → nat_lt (position_or_len p xs) (length xs) ≡ list_any p xs
-found_first p [] = refl
-found_first p (x ∷ xs) = first_step (p x) (position_or_len p xs) (length xs) (list_any p xs) (found_first p xs)
-
-none_found : {X : Type 0} (p : X → Bool) (xs : List X) → position p xs ≡ None → list_any p xs ≡ false
-none_found p xs e = go (list_any p xs) (found_first p xs)
-  where
-    go : (b : Bool) → nat_lt (position_or_len p xs) (length xs) ≡ b → b ≡ false
-    go false h = refl
-    go true h = let z : position p xs ≡ Some (position_or_len p xs) = ap (λ (b : Bool). cond b (Some (position_or_len p xs)) None) h in let bad : None ≡ Some (position_or_len p xs) = sym e ∙ z in cc
-
-left_false : (a b : Bool) → (a || b) ≡ false → a ≡ false
+pub left_false : (a b : Bool) → (a || b) ≡ false → a ≡ false
 left_false true b h = h
 left_false false b h = refl
 
-right_false : (a b : Bool) → (a || b) ≡ false → b ≡ false
+pub right_false : (a b : Bool) → (a || b) ≡ false → b ≡ false
 right_false true b h = cc
 right_false false b h = h
 
@@ -79,7 +62,7 @@ winner imports name v (g ∷ gs) h e = by_later (last_value name gs) refl e (win
   own true n is = record { line = g; lawful = not_false (is_set imports g) (left_false (unset imports g) (list_any (unset imports) gs) h); named = n; value = cc }
   own false n is = cc
 
-  by_later : (o : Option Value) → last_value name gs ≡ o → or_else o (if bytes_eq g.name name then Some g.value else None) ≡ Some v → (last_value name gs ≡ Some v → Wins imports name v)
+  by_later : (o : Option Value) → last_value name gs ≡ o → option_or o (if bytes_eq g.name name then Some g.value else None) ≡ Some v → (last_value name gs ≡ Some v → Wins imports name v)
       → Wins imports name v
   by_later (Some w) later is more = more (later ∙ is)
   by_later None later is more = own (bytes_eq g.name name) refl is
@@ -142,23 +125,40 @@ module _ (imports : List Import) (gs : List GlobalText) (lawful : list_any (unse
 
 -- ---- of a set-up
 
-no_bad : (o p : Option ℕ) (runs : Bool) (t : ProgramText) (x y : SetUp) → unless_told (or_else (told_at 14 (global_line t) o) (told_at 15 (show_line t) p)) x ≡ Ok y → (o ≡ None) × (x ≡ y)
-no_bad (Some i) p runs t x y e = cc
-no_bad None (Some i) runs t x y e = cc
-no_bad None None runs t x y e = (refl, cc)
+-- no line breaks a rule
+no_line_bad : (o p n s : Option ℕ) (t : ProgramText) (x y : SetUp)
+    → unless_told (option_or (told_at 14 (global_line t) o) (option_or (told_at 15 (show_line t) p) (option_or (told_line 16 n) (told_line 19 s)))) x ≡ Ok y
+    → (o ≡ None) × (p ≡ None) × (n ≡ None) × (s ≡ None) × (x ≡ y)
+no_line_bad (Some i) p n s t x y e = cc
+no_line_bad None (Some i) n s t x y e = cc
+no_line_bad None None (Some i) s t x y e = cc
+no_line_bad None None None (Some i) t x y e = cc
+no_line_bad None None None None t x y e = (refl, refl, refl, refl, cc)
 
--- what a program is given: the functions of its entries, and values of its globals' types
-pub record Given (p : Module) (t : ProgramText) (up : SetUp) : Type 0 where
-  pub funcs : H.set_up p t.area (map named_entry t.entries) ≡ Ok up.funcs
+-- What a program is given: the functions of the entries of all its strands, and values of its globals' types. The areas of its strands
+-- don't overlap; where it runs, no range of memory that is shown overlaps any; no import is bound to a mailbox that neither sends nor
+-- receives.
+pub record Given (runs : Bool) (boxes : List (List ℕ)) (p : Module) (t : ProgramText) (up : SetUp) : Type 0 where
+  pub funcs : H.set_up p (asked_area p t).area (map named_entry (entries_in t)) ≡ Ok up.funcs
+  pub values : up.globals ≡ global_values p.imports t.globals
   pub globals : types_of up.globals ≡ global_types (imported imported_global p)
+  pub shows : bad_show runs t.area t.strands t.shows ≡ None
+  pub mail : misbound_line boxes p t.binds ≡ None
+  pub apart : overlap_line (t.area ∷ []) t.strands ≡ None
 
-pub given_by_rules : (runs : Bool) (p : Module) (t : ProgramText) (up : SetUp) → set_up_rules runs p t ≡ Ok up → Given p t up
-given_by_rules runs p t up e = by (H.set_up p t.area (map named_entry t.entries)) refl e where
-  by : (r : Result (List ℕ) H.Fault) → H.set_up p t.area (map named_entry t.entries) ≡ r → with_lines runs p.imports t (told_funcs t r) ≡ Ok up → Given p t up
+pub given_by_rules : (runs : Bool) (boxes : List (List ℕ)) (p : Module) (t : ProgramText) (up : SetUp) → set_up_rules runs boxes p t ≡ Ok up → Given runs boxes p t up
+given_by_rules runs boxes p t up e = by (H.set_up p (asked_area p t).area (map named_entry (entries_in t))) refl e where
+  by : (r : Result (List ℕ) H.Fault) → H.set_up p (asked_area p t).area (map named_entry (entries_in t)) ≡ r → with_lines runs boxes p t (told_funcs (asked_area p t) t r) ≡ Ok up → Given runs boxes p t up
   by (Err f) is h = cc
   by (Ok funcs) is h =
-      let n = no_bad (bad_global p.imports t.globals) (bad_show runs t.area t.shows) runs t (record { funcs = funcs; globals = global_values p.imports t.globals }) up h in
+      let n = no_line_bad (bad_global p.imports t.globals) (bad_show runs t.area t.strands t.shows) (misbound_line boxes p t.binds) (overlap_line (t.area ∷ []) t.strands) t
+      (record { funcs = funcs; globals = global_values p.imports t.globals }) up h in
+      let values : up.globals ≡ global_values p.imports t.globals = sym (ap (λ (x : SetUp). x.globals) n.4) in
       record {
-        funcs = is ∙ ap (λ (x : SetUp). Ok x.funcs) n.1;
-        globals = sym (ap (λ (x : SetUp). types_of x.globals) n.1) ∙ all_typed p.imports t.globals (none_found (unset p.imports) t.globals n.0) p.imports (λ name ty no. no);
+        funcs = is ∙ ap (λ (x : SetUp). Ok x.funcs) n.4;
+        values = values;
+        globals = ap (λ (vs : List Value). types_of vs) values ∙ all_typed p.imports t.globals (none_found (unset p.imports) t.globals n.0) p.imports (λ name ty no. no);
+        shows = n.1;
+        mail = n.2;
+        apart = n.3;
       }

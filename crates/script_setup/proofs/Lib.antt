@@ -1,4 +1,12 @@
+pub mod Bound
+pub mod Counts
+pub mod FirstPlaces
+pub mod Fronts
 pub mod Gathered
 pub mod GlobalTables
-pub mod Told
 pub mod GlobalTypes
+pub mod Misbound
+pub mod StrandLoops
+pub mod StrandSetUps
+pub mod Told
+pub mod WithoutStrands

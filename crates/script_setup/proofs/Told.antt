@@ -1,14 +1,14 @@
 -- Faults and the lines at which they are told.
-use Rattle.std.proofs.Common.{◌≡◌, ℕ, suc, ◌+◌, ◌<◌, List, [], ◌∷◌, length, map, get_or, slice_get, position, Option, Some, None, Bool, true, false, not, cond, nat_lt, ap, sym, ◌∙◌, refl}
-use Rattle.std.proofs.Common.{subst, Result, Ok, Err, if◌then◌else◌}
-use Rattle.std.specs.List.{position_or_len, prefix_len}
+use Rattle.std.proofs.Common.{◌≡◌, ℕ, ◌+◌, ◌<◌, List, [], ◌∷◌, length, map, get_or, slice_get, position, Option, Some, None, Bool, not, cond, nat_lt, ap, sym, ◌∙◌, refl}
+use Rattle.std.proofs.Common.{Result}
+use Rattle.std.specs.List.{prefix_len}
 use Rattle.std.specs.Option.{option_map, unwrap_or}
 use Rattle.std.proofs.lemmas.Option.{slice_get-map, slice_get_read}
 use Rattle.std.proofs.lemmas.List.{length-map}
 use Rattle.wa_types.specs.Syntax.{Module}
 use Rattle.wa_types.specs.declared.syntax.Import.{Import}
-use Rattle.wa_model.specs.declared.answers.Area.{Area}
-use Rattle.wa_model.specs.Script.{GlobalText, ProgramText, ScriptFault, breaks}
+use Rattle.script_model.specs.Script.{GlobalText, ProgramText, ScriptFault}
+use Rattle.script_model.specs.ScriptText.{AreaText}
 use Rattle.host_setup.specs.declared.faults.SetupFault.{SetupFault}
 use Rattle.host_setup.specs.declared.faults.SetupFault.TheVariants as S
 use Rattle.host_setup.specs.SetUp as H
@@ -16,12 +16,11 @@ use Rattle.host_setup.specs.Views as W
 use Rattle.script_setup.specs.declared.fault.RuleFault.{RuleFault}
 use Rattle.script_setup.specs.declared.fault.RuleFault.TheVariants.{Memory, Rule}
 use Rattle.script_reader.specs.declared.script.GlobalText.{GlobalText as GlobalValue}
-use Rattle.script_reader.specs.declared.script.ShowText.{ShowText as ShowValue}
-use Rattle.script_reader.specs.Views.{global_of, show_of}
+use Rattle.script_reader.specs.Views.{global_of}
 use Rattle.script_setup.specs.declared.globals.Types.{Types}
 use Rattle.script_setup.specs.Tables.{is_lawful, types_of}
 use Rattle.script_setup.proofs.GlobalTables.{lawful_is_set}
-use Rattle.script_setup.specs.SetUpRules.{SetUp, bad_global, bad_show, is_set, overlaps, told_funcs, with_lines}
+use Rattle.script_setup.specs.SetUpRules.{bad_global, is_set, told_funcs, with_lines}
 use Rattle.script_setup.specs.Views.{Blames, rule_fault}
 
 prefix_map : {X Y : Type 0} (p : Y → Bool) (f : X → Y) (xs : List X) → prefix_len p (map f xs) ≡ prefix_len (λ x. p (f x)) xs
@@ -53,18 +52,19 @@ pub line_none : {X Y : Type 0} (line : Y → ℕ) (f : X → Y) (xs : List X) (i
 line_none line f xs i e = sym (ap (λ (o : Option _). unwrap_or (option_map line o) 0) (slice_get-map f xs i ∙ ap (option_map f) e))
 
 -- a fault of the module's set-up is told by its line and rule
-pub fault_told : (t : ProgramText) (fault : SetupFault) (told : Result (List ℕ) H.Fault) → W.Blames fault told → Blames (rule_fault t fault) (told_funcs t told)
-fault_told t S.Memory told e = tt
-fault_told t S.AreaBad told e = ap (told_funcs t) e
-fault_told t (S.NoExports name) told e = ap (told_funcs t) e
-fault_told t (S.EntryMissing entry) told e = ap (told_funcs t) e
-fault_told t (S.EntryIsImport entry) told e = ap (told_funcs t) e
-fault_told t (S.ArgTypes entry) told e = ap (told_funcs t) e
+pub fault_told : (asked : AreaText) (t : ProgramText) (fault : SetupFault) (told : Result (List ℕ) H.Fault) → W.Blames fault told → Blames (rule_fault asked t fault) (told_funcs asked t told)
+fault_told asked t S.Memory told e = tt
+fault_told asked t S.AreaBad told e = ap (told_funcs asked t) e
+fault_told asked t (S.NoExports name) told e = ap (told_funcs asked t) e
+fault_told asked t (S.EntryMissing entry) told e = ap (told_funcs asked t) e
+fault_told asked t (S.EntryIsImport entry) told e = ap (told_funcs asked t) e
+fault_told asked t (S.ArgTypes entry) told e = ap (told_funcs asked t) e
 
 -- a fault of the functions is one of the whole
-pub blames_on : (runs : Bool) (imports : List Import) (t : ProgramText) (fault : RuleFault) (told : Result (List ℕ) ScriptFault) → Blames fault told → Blames fault (with_lines runs imports t told)
-blames_on runs imports t Memory told h = tt
-blames_on runs imports t (Rule line rule) told h = ap (with_lines runs imports t) h
+pub blames_on : (runs : Bool) (boxes : List (List ℕ)) (p : Module) (t : ProgramText) (fault : RuleFault) (told : Result (List ℕ) ScriptFault) → Blames fault told
+    → Blames fault (with_lines runs boxes p t told)
+blames_on runs boxes p t Memory told h = tt
+blames_on runs boxes p t (Rule line rule) told h = ap (with_lines runs boxes p t) h
 
 -- the first bad line, by a table of types
 pub bad_global_found : (imports : List Import) (find : List ℕ → Types) (xs : List GlobalValue) → ((name : List ℕ) → find name ≡ types_of imports name)

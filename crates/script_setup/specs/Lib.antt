@@ -1,3 +1,9 @@
+pub mod Bindings
+pub mod MailNames
+pub mod Places
+pub mod Prepared
+pub mod Scripts
 pub mod SetUpRules
+pub mod StrandSetUps
 pub mod Tables
 pub mod Views

@@ -1,6 +1,6 @@
 -- What is looked up by name: the types of imported globals, and the values that lines give.
-use Rattle.std.specs.Prelude.{String, ◌≡◌, ℕ, List, Option, Some, None, Bool, false, true, not, ◌&&◌, ◌||◌, if◌then◌else◌}
-use Rattle.std.specs.Option.{option_map, unwrap_or}
+use Rattle.std.specs.Prelude.{String, ◌≡◌, ℕ, List, Option, Some, None, Bool, false, not, ◌&&◌, ◌||◌, if◌then◌else◌}
+use Rattle.std.specs.Option.{unwrap_or}
 use Rattle.std.specs.Borrow.{Bor}
 use Rattle.std.specs.declared.alloc.Global.{Global}
 use Rattle.std.specs.BTreeMap.{BTreeMap, get_by, get_by_text}
@@ -13,7 +13,7 @@ use Rattle.wa_types.specs.declared.values.Value.TheVariants as V
 use Rattle.wa_types.specs.declared.syntax.Import.{Import}
 use Rattle.wa_types.specs.Encoding.{same_type}
 use Rattle.wa_types.specs.Typing.{GlobalType}
-use Rattle.wa_model.specs.Script.{GlobalText}
+use Rattle.script_model.specs.Script.{GlobalText}
 use Rattle.script_setup.specs.declared.globals.Types.{Types}
 use Rattle.script_setup.specs.SetUpRules.{imports_global, last_value}
 

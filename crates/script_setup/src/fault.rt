@@ -3,7 +3,7 @@
 use std::alloc::AllocError;
 use thiserror::Error;
 
-/// Why a program isn't set up: a line of its script, counted from 1, breaks a rule from 9 to 15.
+/// Why a program isn't set up: a line of its script, counted from 1, breaks a rule from 9 to 16, or rule 19.
 #[derive(Clone, Copy, Debug, PartialEq, Eq, Error)]
 pub enum RuleFault {
     #[error("out of memory")]

@@ -9,7 +9,7 @@ ghost use Rattle.wa_types.specs.declared.values.ValType.TheVariants.{I32, I64};
 ghost use Rattle.wa_types.specs.Encoding.{same_type};
 ghost use Rattle.wa_types.specs.Modules.{imported_global};
 ghost use Rattle.wa_types.specs.Pausing.{joined_name};
-ghost use Rattle.wa_model.specs.Script.{GlobalText as PlainGlobal};
+ghost use Rattle.script_model.specs.Script.{GlobalText as PlainGlobal};
 ghost use Rattle.wa_model.specs.Step.{zero_of};
 ghost use Rattle.script_reader.specs.Views.{global_of};
 ghost use Rattle.script_setup.specs.SetUpRules.{bad_global, global_values, value_or_zero};
@@ -91,7 +91,8 @@ fn with_type(ty: ValType, types: Types) -> Types
     }
 }
 
-fn is_narrow(ty: ValType) -> bool
+/// Whether a value of this type has 32 bits.
+pub(crate) fn is_narrow(ty: ValType) -> bool
     ensures narrow { result ≡ same_type ty I32 }
     ensures wide { not result ≡ same_type ty I64 }
 {

@@ -1,4 +1,4 @@
-//! The names in a program's lines: its function imports, its entries, and the length of its area.
+//! The names in the lines of a program's strands: its function imports, the strand's entries, and the length of its area.
 
 ghost use Rattle.std.specs.Prelude.{◌≡◌, ◌++◌, [], ◌∷◌, IfOk, OnOk, map};
 ghost use Rattle.std.specs.String.{string_bytes};
@@ -6,24 +6,37 @@ ghost use Rattle.transcript.specs.Printing.{names_of};
 ghost use Rattle.wa_types.specs.Modules.{imported_func};
 ghost use Rattle.wa_types.specs.Pausing.{joined_name};
 ghost use Rattle.wa_types.specs.View.{module_of};
-ghost use Rattle.wa_model.specs.Script.{EntryText as PlainEntry};
-ghost use Rattle.wa_model.specs.World.{name_if};
-ghost use Rattle.script_reader.specs.Views.{entry_of, program_of};
-ghost use Rattle.script_setup.specs.SetUpRules.{program_names};
+ghost use Rattle.script_model.specs.Script.{EntryText as PlainEntry};
+ghost use Rattle.world_model.specs.World.{name_if};
+ghost use Rattle.script_reader.specs.Views.{entry_of, program_of, strand_of};
+ghost use Rattle.script_setup.specs.SetUpRules.{program_names, strand_names};
 ghost use Rattle.std.specs.List.{filter_map};
 
-use script_reader::{EntryText, ProgramText};
+use script_reader::{EntryText, ProgramText, StrandText};
 use std::alloc::{AllocError, Global};
 use transcript::Names;
 use wa_types::{Import, ImportKind, Module, Name};
 
-/// The names of a program's lines: its module's function imports, joined, its entries, and the length of its area.
+/// The names of the lines of a program's first strand: its module's function imports, joined, its entries, and the length of its area.
 pub fn program_names(
     alloc: Global,
     module: &Module,
     text: &ProgramText,
 ) -> Result<Names, AllocError>
     ensures { IfOk result (λ names. names_of names ≡ program_names (module_of «module».now) (program_of text.now)) }
+{
+    let imports = import_names(alloc, &module.imports)?;
+    let entries = entry_names(alloc, &text.entries)?;
+    Ok(Names {
+        imports,
+        entries,
+        len: text.area.len,
+    })
+}
+
+/// The same of a further strand.
+pub fn strand_names(alloc: Global, module: &Module, text: &StrandText) -> Result<Names, AllocError>
+    ensures { IfOk result (λ names. names_of names ≡ strand_names (module_of «module».now) (strand_of text.now)) }
 {
     let imports = import_names(alloc, &module.imports)?;
     let entries = entry_names(alloc, &text.entries)?;

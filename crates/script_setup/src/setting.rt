@@ -1,26 +1,27 @@
 //! A program, set up over its module: what it is given, or the line and the rule of its first fault.
 
-ghost use Rattle.std.specs.Prelude.{◌≡◌, ◌<◌, ◌^◌, IfOk, Ok, length, map, position};
-ghost use Rattle.std.specs.Option.{option_map};
+ghost use Rattle.std.specs.Prelude.{◌≡◌, ◌<◌, ◌^◌, [], ◌∷◌, IfOk, Ok, length, map};
+ghost use Rattle.std.specs.Option.{option_map, option_or};
 ghost use Rattle.wa_types.specs.View.{module_of};
 ghost use Rattle.host_setup.specs.SetUp.{set_up};
 ghost use Rattle.host_setup.specs.Views.{entry_of as named_entry_of};
-ghost use Rattle.wa_model.specs.ScriptLines.{or_else};
-ghost use Rattle.script_reader.specs.Views.{program_of, show_of};
-ghost use Rattle.script_setup.specs.SetUpRules.{bad_show, entry_line, global_line, global_values, named_entry, overlaps, set_up_rules, show_line, told_funcs, told_at, with_lines};
-ghost use Rattle.script_setup.specs.Views.{Reads, broken_of, rule_fault, set_up_of};
+ghost use Rattle.script_reader.specs.Views.{mailbox_of, program_of};
+ghost use Rattle.script_setup.specs.SetUpRules.{asked_area, bad_show, box_names, entries_in, global_line, global_values, lines_fault, misbound_line, named_entry, overlap_line, set_up_rules, show_line};
+ghost use Rattle.script_setup.specs.SetUpRules.{told_at, told_funcs, told_line, unless_told};
+ghost use Rattle.script_setup.specs.Views.{Reads, area_text_of, broken_of, rule_fault, set_up_of};
 
-use crate::entries::copied_entries;
+use crate::areas::{AreaText, asked_area, bad_show, overlap_line};
+use crate::entries::{all_entries, entry_line};
 use crate::fault::RuleFault;
 use crate::globals::{bad_global, global_values};
+use crate::mail::misbound_line;
 use host_setup::{Entry, SetupFault, set_up};
-use script_reader::{ProgramText, ShowText};
-use std::alloc::Global;
-use wa_model::Area;
-use wa_types::{Import, Value};
+use script_reader::{MailboxText, ProgramText};
+use std::alloc::{AllocError, Global};
+use wa_types::{Import, Module, Value};
 use wasm_validate::Valid;
 
-/// What a program is given: its entries, the functions that they call, and one value for each imported global.
+/// What a program is given: the entries of all its strands in order, the functions that they call, and one value for each imported global.
 #[derive(Drop)]
 pub struct SetUp {
     pub entries: Vec<Entry>,
@@ -28,27 +29,31 @@ pub struct SetUp {
     pub globals: Vec<Value>,
 }
 
-/// What a program of a script is given over its module; or the line and the rule of its first fault, rules from 9 to 15 one after
-/// another. `runs` asks the last one, too, which `run` alone has. Takes time near linear in the module's imports and exports and in
-/// the lines.
+/// What a program of a script with these mailboxes is given over its module; or the line and the rule of its first fault, rules from
+/// 9 to 19 one after another. `runs` asks rule 15, too, which `run` alone has. Takes time near linear in the module's imports and
+/// exports, the mailboxes and the lines.
 pub fn set_up_program(
     alloc: Global,
     valid: &Valid,
+    mailboxes: &[MailboxText],
     text: &ProgramText,
     runs: bool,
 ) -> Result<SetUp, RuleFault>
-    requires { length text.now.entries.items < 2 ^ 32 }
-    ensures made { Reads set_up_of result (set_up_rules runs (module_of valid.now) (program_of text.now)) }
-    ensures entries { IfOk result (λ made. map named_entry_of made.entries.items ≡ map named_entry (program_of text.now).entries) }
+    requires { length (entries_in (program_of text.now)) < 2 ^ 32 }
+    ensures made { Reads set_up_of result (set_up_rules runs (box_names (map mailbox_of mailboxes.now)) (module_of valid.now) (program_of text.now)) }
+    ensures entries { IfOk result (λ made. map named_entry_of made.entries.items ≡ map named_entry (entries_in (program_of text.now))) }
 {
-    let entries = copied_entries(alloc, &text.entries)?;
+    let entries = all_entries(alloc, text)?;
     match entry_funcs(alloc, valid, text, &entries) {
-        Ok(funcs) => with_lines(alloc, &valid.module().imports, text, runs, entries, funcs),
+        Ok(funcs) => {
+            let broken = lines_fault(alloc, valid.module(), mailboxes, text, runs)?;
+            unless_broken(alloc, &valid.module().imports, text, broken, entries, funcs)
+        }
         Err(fault) => Err(fault),
     }
 }
 
-// The functions of a program's entries, or the line and the rule of the first fault of its module's set-up.
+// The functions of the entries of all strands, or the line and the rule of the first fault of its module's set-up.
 fn entry_funcs(
     alloc: Global,
     valid: &Valid,
@@ -56,23 +61,25 @@ fn entry_funcs(
     entries: &[Entry],
 ) -> Result<Vec<u32>, RuleFault>
     requires few { length entries.now < 2 ^ 32 }
-    requires same { map named_entry_of entries.now ≡ map named_entry (program_of text.now).entries }
-    ensures { Reads (λ funcs. funcs.items) result (told_funcs (program_of text.now) (set_up (module_of valid.now) text.now.area (map named_entry (program_of text.now).entries))) }
+    requires same { map named_entry_of entries.now ≡ map named_entry (entries_in (program_of text.now)) }
+    ensures { let p = module_of valid.now in let t = program_of text.now in Reads (λ funcs. funcs.items) result
+        (told_funcs (asked_area p t) t (set_up p (asked_area p t).area (map named_entry (entries_in t)))) }
 {
-    match set_up(alloc, valid, text.area, entries) {
+    let asked = asked_area(alloc, valid.module(), text)?;
+    match set_up(alloc, valid, asked.area, entries) {
         Ok(funcs) => Ok(funcs),
-        Err(fault) => Err(rule_fault(text, fault)),
+        Err(fault) => Err(rule_fault(text, asked, fault)),
     }
 }
 
-// The line and the rule of a fault of the module's set-up.
-fn rule_fault(text: &ProgramText, fault: SetupFault) -> RuleFault
-    ensures { result ≡ rule_fault (program_of text.now) fault }
+// The line and the rule of a fault of the module's set-up, of which this area was asked.
+fn rule_fault(text: &ProgramText, asked: AreaText, fault: SetupFault) -> RuleFault
+    ensures { result ≡ rule_fault (area_text_of asked) (program_of text.now) fault }
 {
     match fault {
         SetupFault::Memory => RuleFault::Memory,
         SetupFault::AreaBad => RuleFault::Rule {
-            line: text.area_line,
+            line: asked.line,
             rule: 9,
         },
         SetupFault::NoExports { .. } => RuleFault::Rule {
@@ -94,29 +101,19 @@ fn rule_fault(text: &ProgramText, fault: SetupFault) -> RuleFault
     }
 }
 
-fn entry_line(text: &ProgramText, entry: u32) -> u32
-    ensures { result ≡ entry_line (program_of text.now) entry }
-{
-    match text.entries.get(entry as usize) {
-        Some(entry) => entry.line,
-        None => 0,
-    }
-}
-
-// A program whose entries call these functions.
-fn with_lines(
+// A program whose entries call these functions, unless one of its lines breaks a rule.
+fn unless_broken(
     alloc: Global,
     imports: &[Import],
     text: &ProgramText,
-    runs: bool,
+    broken: Option<Broken>,
     entries: Vec<Entry>,
     funcs: Vec<u32>,
 ) -> Result<SetUp, RuleFault>
-    ensures made { Reads set_up_of result (with_lines runs imports.now (program_of text.now) (Ok funcs.items)) }
+    ensures made { Reads set_up_of result (unless_told (option_map broken_of broken) (record { funcs = funcs.items; globals = global_values imports.now (program_of text.now).globals })) }
     ensures entries { IfOk result (λ made. made.entries ≡ entries) }
 {
-    let place = bad_global(alloc, imports, &text.globals)?;
-    match lines_fault(runs, text, place) {
+    match broken {
         Some(broken) => Err(RuleFault::Rule {
             line: broken.line,
             rule: broken.rule,
@@ -150,28 +147,69 @@ pub(crate) struct Broken {
     pub rule: u8,
 }
 
-// The first line that breaks a rule of globals, the first of which that does stands here, or of shown memory.
-fn lines_fault(runs: bool, text: &ProgramText, place: Option<usize>) -> Option<Broken>
-    ensures { or_else (told_at 14 (global_line (program_of text.now)) place) (told_at 15 (show_line (program_of text.now))
-        (bad_show runs (program_of text.now).area (program_of text.now).shows)) ≡ option_map broken_of result }
+// The first line that breaks a rule of globals, of shown memory, of mailboxes or of strands.
+fn lines_fault(
+    alloc: Global,
+    module: &Module,
+    mailboxes: &[MailboxText],
+    text: &ProgramText,
+    runs: bool,
+) -> Result<Option<Broken>, AllocError>
+    ensures { IfOk result (λ broken. lines_fault runs (box_names (map mailbox_of mailboxes.now)) (module_of «module».now) (program_of text.now) ≡ option_map broken_of broken) }
 {
-    match place {
-        Some(place) => Some(Broken {
+    match bad_global(alloc, &module.imports, &text.globals)? {
+        Some(place) => Ok(Some(Broken {
             line: global_line(text, place),
             rule: 14,
-        }),
-        None => show_fault(text, bad_show(runs, text.area, &text.shows)),
+        })),
+        None => later_fault(alloc, module, mailboxes, text, runs),
     }
 }
 
-fn show_fault(text: &ProgramText, place: Option<usize>) -> Option<Broken>
-    ensures { told_at 15 (show_line (program_of text.now)) place ≡ option_map broken_of result }
+// The first line that breaks a rule of shown memory, of mailboxes or of strands.
+fn later_fault(
+    alloc: Global,
+    module: &Module,
+    mailboxes: &[MailboxText],
+    text: &ProgramText,
+    runs: bool,
+) -> Result<Option<Broken>, AllocError>
+    ensures { let t = program_of text.now in IfOk result (λ broken. option_or (told_at 15 (show_line t) (bad_show runs t.area t.strands t.shows))
+        (option_or (told_line 16 (misbound_line (box_names (map mailbox_of mailboxes.now)) (module_of «module».now) t.binds)) (told_line 19 (overlap_line (t.area ∷ []) t.strands)))
+        ≡ option_map broken_of broken) }
 {
-    match place {
-        Some(place) => Some(Broken {
+    match bad_show(runs, text.area, &text.strands, &text.shows) {
+        Some(place) => Ok(Some(Broken {
             line: show_line(text, place),
             rule: 15,
-        }),
+        })),
+        None => mailbox_fault(alloc, module, mailboxes, text),
+    }
+}
+
+// The first line that breaks a rule of mailboxes or of strands.
+fn mailbox_fault(
+    alloc: Global,
+    module: &Module,
+    mailboxes: &[MailboxText],
+    text: &ProgramText,
+) -> Result<Option<Broken>, AllocError>
+    ensures { let t = program_of text.now in IfOk result (λ broken.
+        option_or (told_line 16 (misbound_line (box_names (map mailbox_of mailboxes.now)) (module_of «module».now) t.binds)) (told_line 19 (overlap_line (t.area ∷ []) t.strands))
+        ≡ option_map broken_of broken) }
+{
+    match misbound_line(alloc, module, mailboxes, &text.binds)? {
+        Some(line) => Ok(Some(Broken { line, rule: 16 })),
+        None => Ok(strand_fault(text)),
+    }
+}
+
+// The first line of a strand whose area overlaps an earlier one.
+fn strand_fault(text: &ProgramText) -> Option<Broken>
+    ensures { told_line 19 (overlap_line ((program_of text.now).area ∷ []) (program_of text.now).strands) ≡ option_map broken_of result }
+{
+    match overlap_line(text.area, &text.strands) {
+        Some(line) => Some(Broken { line, rule: 19 }),
         None => None,
     }
 }
@@ -192,35 +230,4 @@ fn show_line(text: &ProgramText, place: usize) -> u32
         Some(show) => show.line,
         None => 0,
     }
-}
-
-// The place of the first range of memory that `run` may not show.
-fn bad_show(runs: bool, area: Area, shows: &[ShowText]) -> Option<usize>
-    ensures { bad_show runs area (map show_of shows.now) ≡ result }
-{
-    if runs {
-        first_overlap(area, shows)
-    } else {
-        None
-    }
-}
-
-fn first_overlap(area: Area, shows: &[ShowText]) -> Option<usize>
-    ensures { position (overlaps area) (map show_of shows.now) ≡ result }
-{
-    let place = overlapping(area, shows);
-    place
-}
-
-fn overlapping(area: Area, shows: &[ShowText]) -> Option<usize>
-    ensures { result ≡ position (λ s. overlaps area (show_of s)) shows.now }
-{
-    shows.iter().position(|show| overlaps(area, show))
-}
-
-fn overlaps(area: Area, show: &ShowText) -> bool
-    ensures { result ≡ overlaps area (show_of show.now) }
-{
-    u64::from(show.at) < u64::from(area.at) + u64::from(area.len)
-        && u64::from(area.at) < u64::from(show.at) + u64::from(show.len)
 }

@@ -10,7 +10,7 @@ use Rattle.wa_types.specs.Modules.{imported, imported_func, func_sorts, func_imp
 use Rattle.wa_types.specs.Pausing.{Callee, direct, indirect, Settings, Listed, calls_in, MayPause, calls_listed as by_listed, calls_indirectly as by_table, calls_pausing as by_member}
 use Rattle.wa_types.specs.Pausing.{TellsMayPause, is_told, has_number}
 use Rattle.wa_types.proofs.SlotLemmas.{either_true, or_left, or_right}
-use Rattle.slot_laws.specs.PauseLaws.{IsClosed, MayPauseIsClosed, MayPauseIsLeast, OneListTells, SomeListTells}
+use Rattle.slot_laws.specs.PausingFunctions.{IsClosed, MayPauseIsClosed, MayPauseIsLeast, OneListTells, SomeListTells}
 
 pub is_closed : MayPauseIsClosed
 is_closed m s = record {

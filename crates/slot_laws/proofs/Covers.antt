@@ -5,7 +5,7 @@ use Rattle.std.specs.Prelude.{slice_get, nat_le, if◌then◌else◌}
 use Rattle.std.specs.List.{list_any}
 use Rattle.wa_types.specs.declared.values.ValType.{ValType}
 use Rattle.wa_types.specs.declared.values.ValType.TheVariants.{I32}
-use Rattle.wa_types.specs.Syntax.{Basic, nop, drop as drop_operand, select, const, num, global_get, global_set, load, store, memory_size, memory_grow, Plain, basic, local_get, local_set}
+use Rattle.wa_types.specs.Syntax.{Basic, nop, drop as drop_operand, select, const, num, global_get, global_set, load, store, memory_size, memory_grow, memory_copy, memory_fill, Plain, basic, local_get, local_set}
 use Rattle.wa_types.specs.Syntax.{local_tee, br, br_if, br_table, return, unreachable, call, call_indirect, Code, done, plain, nest, branch, FuncType}
 use Rattle.wa_types.specs.Pruned.{is_last}
 use Rattle.wa_types.specs.Accesses.{AccessRow, load_row, store_row}
@@ -183,6 +183,8 @@ puts_basic c (load op align offset) = puts_loads c.memory align (load_row op)
 puts_basic c (store op align offset) = puts_stores c.memory align (store_row op)
 puts_basic c memory_size = puts_with_memory c.memory [] (I32 ∷ []) (omega arith)
 puts_basic c memory_grow = puts_with_memory c.memory (I32 ∷ []) (I32 ∷ []) (omega arith)
+puts_basic c memory_copy = puts_with_memory c.memory (I32 ∷ I32 ∷ I32 ∷ []) [] (omega arith)
+puts_basic c memory_fill = puts_with_memory c.memory (I32 ∷ I32 ∷ I32 ∷ []) [] (omega arith)
 
 pub puts_one : (c : Around) → FewResults c → (ls : List (Option ValType)) (p : Plain) → PutsOne (sig c ls p)
 puts_one c few ls (basic b) = puts_basic c b

@@ -42,6 +42,7 @@ pair_is n d t (Some u) e = elim (either_true (same_pair d t (record { number = n
   | inr h ↦ cc
 ]
 
+-- .. and back: the pair of a construct's result is among its own
 pub is_pair : (n d : ℕ) (t : ValType) (r : Option ValType) → d ≡ n → r ≡ Some t → list_any (same_pair d t) (pair_of n r) ≡ true
 is_pair n d t r e f =
     let own : list_any (same_pair d t) (pair_of d (Some t)) ≡ true =

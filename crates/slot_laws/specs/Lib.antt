@@ -1,4 +1,4 @@
+pub mod PausingFunctions
 pub mod SlotBounds
-pub mod PauseLaws
-pub mod WalkPoints
 pub mod TypingWalks
+pub mod WalkPoints

@@ -6,6 +6,10 @@ use Rattle.std.proofs.lemmas.List.{drop_all}
 pub three : (start x y z a b c : List ℕ) → start ≡ [] → x ≡ start ++ a → y ≡ x ++ b → z ≡ y ++ c → z ≡ a ++ b ++ c
 three start x y z a b c none first second third = simp (third, second, first, none)
 
+-- four parts, from an empty line on
+pub four : (start x y z w a b c d : List ℕ) → start ≡ [] → x ≡ start ++ a → y ≡ x ++ b → z ≡ y ++ c → w ≡ z ++ d → w ≡ a ++ b ++ c ++ d
+four start x y z w a b c d none first second third fourth = simp (fourth, third, second, first, none)
+
 -- two parts of two, behind what stands in a line
 pub two_pairs : (old x y a b c d : List ℕ) → x ≡ old ++ (a ++ b) → y ≡ x ++ (c ++ d) → y ≡ old ++ (a ++ b ++ c ++ d)
 two_pairs old x y a b c d first second = simp (second, first, append_assoc)

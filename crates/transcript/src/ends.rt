@@ -1,11 +1,11 @@
 //! The texts of ends.
 
 ghost use Rattle.std.specs.Prelude.{◌≡◌, ◌++◌, [], OnOk, codes};
-ghost use Rattle.wa_model.specs.Transcript.{area_text, end_text, name_at, trap_text};
+ghost use Rattle.script_model.specs.Transcript.{area_text, end_text, name_at, trap_text};
 ghost use Rattle.wa_model.specs.declared.events.End.TheVariants.{HostLimit, OtherImport};
-ghost use Rattle.transcript.specs.Printing.{EndFits, IsImport, of_imports};
+ghost use Rattle.transcript.specs.Printing.{of_imports};
 
-use crate::parts::{put, put_name, put_value_or_none, put_with_number};
+use crate::parts::{name_of, put, put_name, put_value_or_none, put_with_number};
 use std::alloc::{AllocError, Global};
 use wa_model::End;
 use wa_types::{Name, Trap};
@@ -17,7 +17,6 @@ pub fn put_end(
     how: &End,
     imports: &[Name],
 ) -> Result<(), AllocError>
-    requires { EndFits imports.now how.now }
     ensures { OnOk result (text.new.items ≡ text.old.items ++ end_text (of_imports imports.now) how.now) }
 {
     match how {
@@ -51,6 +50,7 @@ pub fn put_end(
         End::PauseInStart(import) => put_import(text, "pause in start ", *import, imports),
         End::DeviceFault(import) => put_import(text, "device fault ", *import, imports),
         End::NoDevice(import) => put_import(text, "no device ", *import, imports),
+        End::Stalled(import) => put_import(text, "stalled ", *import, imports),
         End::StepsSpent(n) => put_with_number(alloc, text, "steps spent ", *n),
         End::Broken(rule) => put_with_number(alloc, text, "protocol broken ", u64::from(*rule)),
     }
@@ -63,11 +63,10 @@ fn put_import(
     import: u32,
     imports: &[Name],
 ) -> Result<(), AllocError>
-    requires { IsImport imports.now import }
     ensures { OnOk result (text.new.items ≡ text.old.items ++ (words.now ++ name_at imports.now import)) }
 {
     put(text, words)?;
-    put_name(text, imports[import as usize].as_str())
+    put_name(text, name_of(imports, import))
 }
 
 // An answer for another import than the one that is called.
@@ -77,7 +76,6 @@ fn put_other(
     named: &Name,
     imports: &[Name],
 ) -> Result<(), AllocError>
-    requires { IsImport imports.now called }
     ensures { OnOk result (text.new.items ≡ text.old.items ++ end_text (of_imports imports.now) (OtherImport called named.now)) }
 {
     put(text, "answer for ")?;
@@ -124,6 +122,7 @@ fn trap_text(trap: Trap) -> &'static str
         Trap::UninitializedElement => "uninitialized element",
         Trap::TypeMismatch => "indirect call type mismatch",
         Trap::StackExhausted => "call stack exhausted",
+        Trap::Import => "import trap",
     }
 }
 

@@ -3,17 +3,17 @@
 ghost use Rattle.std.specs.Prelude.{◌≡◌, ◌++◌, IfOk, OnOk, codes};
 ghost use Rattle.std.specs.Fmt.{decimal};
 ghost use Rattle.std.specs.Option.{option_map};
-ghost use Rattle.wa_model.specs.Transcript.{event_line, event_text, pause_text, printed_name, returned_value, shown_bytes};
+ghost use Rattle.script_model.specs.Transcript.{event_line, event_text, pause_text, printed_name, returned_value, said_text, shown_bytes};
 ghost use Rattle.wa_model.specs.View.{event_of, line_of};
-ghost use Rattle.transcript.specs.Printing.{EventFits, LineFits, names_of};
+ghost use Rattle.transcript.specs.Printing.{names_of};
 
 use crate::ends::{put_area, put_end};
 use crate::parts::{
-    put, put_bytes, put_number, put_value, put_value_or_none, put_values, put_with_name,
-    put_with_number,
+    name_of, put, put_bytes, put_number, put_value, put_value_or_none, put_values, put_with_name,
+    put_with_number, put_with_wide_number,
 };
 use std::alloc::{AllocError, Global};
-use wa_model::{Event, Line};
+use wa_model::{Event, Line, Said};
 use wa_types::{Name, Value};
 
 /// What is named in a program's lines: its function imports, joined, its entries, and the length of its area in bytes.
@@ -24,10 +24,8 @@ pub struct Names {
     pub len: u32,
 }
 
-/// The line of an event: the tick, the program's number and the event's text. Each import and entry that the line
-/// numbers is among the names, and its tick with its ticks fits a u64.
+/// The line of an event: the tick, the program's number and the event's text.
 pub fn line(alloc: Global, line: &Line, names: &Names) -> Result<Vec<u8>, AllocError>
-    requires { LineFits names.now line.now }
     ensures { IfOk result (λ text. text.items ≡ event_line (names_of names.now) (line_of line.now)) }
 {
     let mut text = Vec::new(alloc);
@@ -47,34 +45,37 @@ fn put_times(alloc: Global, text: &mut Vec<u8>, tick: u64, program: u32) -> Resu
 }
 
 // The text of an event that began at this tick.
-fn put_event(
+pub(crate) fn put_event(
     alloc: Global,
     text: &mut Vec<u8>,
     tick: u64,
     event: &Event,
     names: &Names,
 ) -> Result<(), AllocError>
-    requires { EventFits names.now tick event.now }
     ensures { OnOk result (text.new.items ≡ text.old.items ++ event_text (names_of names.now) tick (event_of event.now)) }
 {
     match event {
         Event::Called(call) => {
-            put_with_name(text, "call ", names.imports[call.import as usize].as_str())?;
+            put_with_name(text, "call ", name_of(&names.imports, call.import))?;
             put_values(alloc, text, &call.args)
         }
-        Event::Answered(value) => {
+        Event::Answered(said) => {
             put(text, "answer ")?;
-            put_value_or_none(alloc, text, *value)
+            put_said(alloc, text, *said)
         }
         Event::Paused { ticks, used } => put_pause(
             alloc,
             text,
-            tick + u64::from(*ticks),
+            u128::from(tick) + u128::from(*ticks),
             *used,
             names.len,
         ),
+        Event::Parked { used } => {
+            put(text, "park ")?;
+            put_area(alloc, text, *used, names.len)
+        }
         Event::Returned { entry, value } => {
-            put_return(alloc, text, &names.entries[*entry as usize], *value)
+            put_return(alloc, text, name_of(&names.entries, *entry), *value)
         }
         Event::Ended(how) => {
             put(text, "end ")?;
@@ -88,17 +89,27 @@ fn put_event(
     }
 }
 
+// What an import's call was told.
+fn put_said(alloc: Global, text: &mut Vec<u8>, said: Said) -> Result<(), AllocError>
+    ensures { OnOk result (text.new.items ≡ text.old.items ++ said_text said) }
+{
+    match said {
+        Said::Value(value) => put_value_or_none(alloc, text, value),
+        Said::Trap => put(text, "trap"),
+    }
+}
+
 // The text of a pause until this tick.
 fn put_pause(
     alloc: Global,
     text: &mut Vec<u8>,
-    due: u64,
+    due: u128,
     used: u32,
     len: u32,
 ) -> Result<(), AllocError>
     ensures { OnOk result (text.new.items ≡ text.old.items ++ pause_text due used len) }
 {
-    put_with_number(alloc, text, "pause until ", due)?;
+    put_with_wide_number(alloc, text, "pause until ", due)?;
     put(text, " ")?;
     put_area(alloc, text, used, len)
 }
@@ -107,12 +118,12 @@ fn put_pause(
 fn put_return(
     alloc: Global,
     text: &mut Vec<u8>,
-    entry: &Name,
+    entry: &str,
     value: Option<Value>,
 ) -> Result<(), AllocError>
     ensures { OnOk result (text.new.items ≡ text.old.items ++ (codes "return " ++ printed_name entry.now ++ returned_value value)) }
 {
-    put_with_name(text, "return ", entry.as_str())?;
+    put_with_name(text, "return ", entry)?;
     put_returned(alloc, text, value)
 }
 

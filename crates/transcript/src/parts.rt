@@ -1,11 +1,12 @@
 //! The parts of a line: words, numbers, names, bytes and values.
 
-ghost use Rattle.std.specs.Prelude.{◌≡◌, ◌++◌, ◌<◌, OnOk};
+ghost use Rattle.std.specs.Prelude.{◌≡◌, ◌++◌, ◌<◌, [], OnOk, slice_get};
 ghost use Rattle.std.specs.Fmt.{decimal};
-ghost use Rattle.wa_model.specs.Transcript.{behind_spaces, hex_digit, hex_pair, is_plain_byte, name_byte, printed_bytes, printed_name, printed_value, value_or_none};
+ghost use Rattle.std.specs.Option.{unwrap_or};
+ghost use Rattle.script_model.specs.Transcript.{behind_spaces, hex_digit, hex_pair, is_plain_byte, name_byte, printed_bytes, printed_name, printed_value, value_or_none};
 
 use std::alloc::{AllocError, Global};
-use wa_types::Value;
+use wa_types::{Name, Value};
 
 /// Puts words behind what stands in a line.
 pub fn put(line: &mut Vec<u8>, words: &str) -> Result<(), AllocError>
@@ -33,6 +34,37 @@ pub fn put_with_number(
 {
     put(line, words)?;
     put_number(alloc, line, number)
+}
+
+/// Puts a number in decimal, past 64 bits too.
+pub fn put_wide_number(alloc: Global, line: &mut Vec<u8>, number: u128) -> Result<(), AllocError>
+    ensures { OnOk result (line.new.items ≡ line.old.items ++ decimal number) }
+{
+    let digits = format!(in alloc; "{number}")?;
+    line.extend_from_slice(digits.as_bytes())
+}
+
+/// Puts words and a number, past 64 bits too.
+pub fn put_with_wide_number(
+    alloc: Global,
+    line: &mut Vec<u8>,
+    words: &str,
+    number: u128,
+) -> Result<(), AllocError>
+    ensures { OnOk result (line.new.items ≡ line.old.items ++ (words.now ++ decimal number)) }
+{
+    put(line, words)?;
+    put_wide_number(alloc, line, number)
+}
+
+/// The name of this number, and an empty one where there is none.
+pub fn name_of(names: &[Name], number: u32) -> &str
+    ensures { result.now ≡ unwrap_or (slice_get names.now number) [] }
+{
+    match names.get(number as usize) {
+        None => "",
+        Some(name) => name.as_str(),
+    }
 }
 
 /// Puts a name: bytes outside `!` to `~` and `%` stand as `%hh`.

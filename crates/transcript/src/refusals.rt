@@ -1,7 +1,7 @@
 //! The lines of refusals.
 
 ghost use Rattle.std.specs.Prelude.{◌≡◌, ◌++◌, IfOk, OnOk};
-ghost use Rattle.wa_model.specs.Transcript.{invalid, limit_word, program_text, refusal_line, refusal_text, script};
+ghost use Rattle.script_model.specs.Transcript.{invalid, limit_word, program_text, refusal_line, refusal_text, script};
 ghost use Rattle.transcript.specs.Printing.{refusal_of};
 
 use crate::parts::{put, put_number, put_with_name, put_with_number};
@@ -62,6 +62,12 @@ pub enum RefusalKind {
     WriteFault {
         name: Name,
     },
+    /// A snapshot is longer than it may be; the length found.
+    LimitSnapshot {
+        found: u64,
+    },
+    /// The bytes spell no snapshot that fits the script.
+    SnapshotRefused,
 }
 
 /// The line of a refusal.
@@ -113,6 +119,13 @@ fn put_refusal(alloc: Global, line: &mut Vec<u8>, kind: &RefusalKind) -> Result<
         RefusalKind::OutOfMemory => put(line, "out of memory"),
         RefusalKind::ReadFault { name } => put_with_name(line, "read fault ", name.as_str()),
         RefusalKind::WriteFault { name } => put_with_name(line, "write fault ", name.as_str()),
+        RefusalKind::LimitSnapshot { found } => put_with_number(
+            alloc,
+            line,
+            "limit snapshot ",
+            *found,
+        ),
+        RefusalKind::SnapshotRefused => put(line, "snapshot refused"),
     }
 }
 

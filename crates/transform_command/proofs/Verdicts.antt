@@ -11,19 +11,19 @@ use Rattle.wa_types.specs.Reading.{IsModule}
 use Rattle.wa_types.specs.FirstFault.{FirstFault}
 use Rattle.wa_types.specs.Pausing.{Settings, TellsMayPause}
 use Rattle.slot_laws.proofs.Closed.{one_list}
-use Rattle.source_modules.specs.EmittedAs.{EmittedAs}
-use Rattle.source_modules.specs.PolicyLaws.{without_code}
-use Rattle.source_modules.proofs.CodeAlone.{code_alone}
+use Rattle.script_model.specs.Command.{Manner}
+use Rattle.wa_types.specs.Runtime.{with_runtime}
+use Rattle.wa_model.specs.Rewrites.{Rewrites}
 use Rattle.wa_types.specs.Syntax.{Module}
 use Rattle.wa_types.proofs.FaultLemmas.{valid_no_fault}
 use Rattle.file_laws.proofs.OneFault.{fault_spells_none}
 use Rattle.file_laws.proofs.OneModule.{one_module}
 use Rattle.file_laws.proofs.UniqueCode.{one_file}
 use Rattle.wasm_reader.specs.Answers.{IsFile, HasNoFloat, IsAccepted}
-use Rattle.asyncify_runtime.specs.Reserved.{reserved_at}
-use Rattle.source_modules.specs.Sources.{IsFree, IsValidSource, rewritten_counts, IsRewritable, Cause, malformed, float, deep, limit, reserved, invalid, rewritten_locals, long_output}
-use Rattle.source_modules.specs.Sources.{IsRefusedFor, refusal_for}
-use Rattle.printing.specs.Refused.{status_of}
+use Rattle.local_spill.specs.Reserved.{reserved_at}
+use Rattle.transform_command.specs.Sources.{IsFree, IsValidSource, rewritten_counts, IsRewritable, Cause, malformed, float, deep, limit, reserved, invalid, rewritten_locals, long_output, IsRefusedIn, refusal_for}
+use Rattle.transform_command.proofs.Outlines.{outline, outlined}
+use Rattle.transcript.specs.Refused.{status_of}
 use Rattle.transform_command.specs.Ends.{IsLong}
 
 -- how far bytes come
@@ -70,22 +70,22 @@ stage (invalid func rule at) = 5
 stage (rewritten_locals found) = 6
 stage (long_output found) = 7
 
-reaches : (s : Settings) (bytes : List ℕ) (c : Cause) → IsRefusedFor s bytes c → Reached s bytes (stage c)
-reaches s bytes (malformed at) h = h.0
-reaches s bytes (float at) h = (h.0, h.1)
-reaches s bytes (deep at) h = (h.0, h.1.before.before.before)
-reaches s bytes (limit File n) h = tt
-reaches s bytes (limit Functions n) h = (h.0, h.1)
-reaches s bytes (limit Parameters n) h = (h.0, h.1.before)
-reaches s bytes (limit Body n) h = (h.0, h.1.before.before)
-reaches s bytes (limit Locals n) h = (h.0, h.1.before.before.before.before)
-reaches s bytes (limit Output n) h = absurd h
-reaches s bytes (limit Script n) h = absurd h
-reaches s bytes (limit Programs n) h = absurd h
-reaches s bytes (reserved name) h = (h.0, h.2)
-reaches s bytes (invalid func rule at) h = (h.0, h.1)
-reaches s bytes (rewritten_locals found) h = (h.0, h.2)
-reaches s bytes (long_output found) h = (h.0, h.1, h.3)
+reaches : (how : Manner) (bytes : List ℕ) (c : Cause) → IsRefusedIn how bytes c → Reached how.settings bytes (stage c)
+reaches how bytes (malformed at) h = h.0
+reaches how bytes (float at) h = (h.0, h.1)
+reaches how bytes (deep at) h = (h.0, h.1.before.before.before)
+reaches how bytes (limit File n) h = tt
+reaches how bytes (limit Functions n) h = (h.0, h.1)
+reaches how bytes (limit Parameters n) h = (h.0, h.1.before)
+reaches how bytes (limit Body n) h = (h.0, h.1.before.before)
+reaches how bytes (limit Locals n) h = (h.0, h.1.before.before.before.before)
+reaches how bytes (limit Output n) h = absurd h
+reaches how bytes (limit Script n) h = absurd h
+reaches how bytes (limit Programs n) h = absurd h
+reaches how bytes (reserved name) h = (h.0, h.2)
+reaches how bytes (invalid func rule at) h = (h.0, h.1)
+reaches how bytes (rewritten_locals found) h = (h.0, h.2)
+reaches how bytes (long_output found) h = (h.0, h.1, h.3)
 
 no_least : (k : ℕ) (ks : List ℕ) → IsLeast k ks → ks ≡ [] → ⊥
 no_least k ks h e = let c : Contains [] k = subst (λ (xs : List ℕ). Contains xs k) e h.among in let lt = c.1 in absurd (omega arith)
@@ -101,49 +101,49 @@ same_module bytes m n a b =
     let e = same_sections bytes b.sections m b.within.before.before.before.before.before.file a in
     one_module b.sections m n (subst (λ (ss : List Section). IsModule ss m) e a.is_module) b.is_module
 
--- modules that are emitted of a source differ in code alone
+-- modules that are a source, rewritten, have one outline
 pub one_written : (s : Settings) (bytes : List ℕ) (m n : Module) (which others : List Bool) (p q : Module) → IsRewritable s bytes m which → IsRewritable s bytes n others
-    → EmittedAs m s which p → EmittedAs n s others q → without_code p ≡ without_code q
+    → Rewrites m s p → Rewrites n s q → outline p ≡ outline q
 one_written s bytes m n which others p q a b h k =
-    let e = same_module bytes m n a.accepted.unreserved.read b.accepted.unreserved.read in
-    let t = one_list n s which others (subst (λ (m : Module). TellsMayPause m s which) e a.tells) b.tells in
-    code_alone n s others p q (subst (λ which. EmittedAs n s which p) t (subst (λ (m : Module). EmittedAs m s which p) e h)) k
+    outlined m s p h.parts which a.tells
+    ∙ ap (λ (x : Module). outline (with_runtime x)) (same_module bytes m n a.accepted.unreserved.read b.accepted.unreserved.read)
+    ∙ sym (outlined n s q k.parts others b.tells)
 
-pub stops : (s : Settings) (bytes : List ℕ) (c : Cause) → IsRefusedFor s bytes c → Reached s bytes (suc (stage c)) → ⊥
-stops s bytes (malformed at) h r = fault_spells_none bytes at r.0 h.1 r.1.spells
-stops s bytes (float at) h r =
+pub stops : (how : Manner) (bytes : List ℕ) (c : Cause) → IsRefusedIn how bytes c → Reached how.settings bytes (suc (stage c)) → ⊥
+stops how bytes (malformed at) h r = fault_spells_none bytes at r.0 h.1 r.1.spells
+stops how bytes (float at) h r =
     let e = one_file bytes r.0 h.0 r.1.file.spells h.1.spells in
     no_least at (floats h.0) h.2 (subst (λ (ss : List Section). floats ss ≡ []) e r.1.whole_numbers)
-stops s bytes (deep at) h r =
+stops how bytes (deep at) h r =
     let e = same_sections bytes h.0 r.0 h.1.before.before.before.file r.1 in
     no_least at (opens 1000 h.0) h.2 (subst (λ (ss : List Section). opens 1000 ss ≡ []) e r.1.within.before.nesting)
-stops s bytes (limit File n) h r = absurd (omega (arith, h.0, r))
-stops s bytes (limit Functions n) h r =
+stops how bytes (limit File n) h r = absurd (omega (arith, h.0, r))
+stops how bytes (limit Functions n) h r =
     let e = same_sections bytes h.0 r.0 h.1.file r.1 in
     let few = subst (λ (ss : List Section). function_count ss ≤ 100000) e r.1.within.before.before.before.before.functions in
     absurd (omega (arith, h.2, h.3, few))
-stops s bytes (limit Parameters n) h r =
+stops how bytes (limit Parameters n) h r =
     let e = same_sections bytes h.0 r.0 h.1.before.file r.1 in
     no_some _ n h.2 (subst (λ (ss : List Section). first_above 1000 (parameter_counts ss) ≡ None) e r.1.within.before.before.before.parameters)
-stops s bytes (limit Body n) h r =
+stops how bytes (limit Body n) h r =
     let e = same_sections bytes h.0 r.0 h.1.before.before.file r.1 in
     no_some _ n h.2 (subst (λ (ss : List Section). first_above 1048576 (body_sizes ss) ≡ None) e r.1.within.before.before.bodies)
-stops s bytes (limit Locals n) h r =
+stops how bytes (limit Locals n) h r =
     let e = same_sections bytes h.0 r.0 h.1.before.before.before.before.file r.1 in
     no_some _ n h.2 (subst (λ (ss : List Section). first_above 50000 (local_counts ss) ≡ None) e r.1.within.locals)
-stops s bytes (limit Output n) h r = absurd h
-stops s bytes (limit Script n) h r = absurd h
-stops s bytes (limit Programs n) h r = absurd h
-stops s bytes (reserved name) h r =
+stops how bytes (limit Output n) h r = absurd h
+stops how bytes (limit Script n) h r = absurd h
+stops how bytes (limit Programs n) h r = absurd h
+stops how bytes (reserved name) h r =
     no_some (reserved_at r.0) h.1 (subst (λ (m : Module). reserved_at m ≡ Some h.1) (same_module bytes h.0 r.0 h.2 r.1.read) h.3) r.1.free
-stops s bytes (invalid func rule at) h r =
+stops how bytes (invalid func rule at) h r =
     valid_no_fault r.0 func rule at r.1.valid (subst (λ (m : Module). FirstFault m func rule at) (same_module bytes h.0 r.0 h.1.read r.1.unreserved.read) h.2)
-stops s bytes (rewritten_locals found) h r =
+stops how bytes (rewritten_locals found) h r =
     let e = same_module bytes h.0 r.0 h.2.unreserved.read r.2.accepted.unreserved.read in
-    let t = one_list r.0 s h.1 r.1 (subst (λ (m : Module). TellsMayPause m s h.1) e h.3) r.2.tells in
+    let t = one_list r.0 how.settings h.1 r.1 (subst (λ (m : Module). TellsMayPause m how.settings h.1) e h.3) r.2.tells in
     no_some (first_above 50000 (rewritten_counts h.0 h.1)) found h.4
     (ap (λ (m : Module). first_above 50000 (rewritten_counts m h.1)) e ∙ ap (λ which. first_above 50000 (rewritten_counts r.0 which)) t ∙ r.2.few)
-stops s bytes (long_output found) h r = absurd r
+stops how bytes (long_output found) h r = absurd r
 
 abbrev status_at : ℕ → ℕ
 status_at zero = 6
@@ -183,16 +183,16 @@ early (rewritten_locals found) short = omega arith
 early (long_output found) short = absurd (short tt)
 
 -- Two causes for which bytes are refused have one status.
-pub one_status : (s : Settings) (bytes : List ℕ) (c d : Cause) → IsRefusedFor s bytes c → IsRefusedFor s bytes d → status_of (refusal_for c) ≡ status_of (refusal_for d)
-one_status s bytes c d h k = elim (cases_lt (stage c) (stage d)) [
-  | inl lt ↦ absurd (stops s bytes c h (below s bytes (stage d) (suc (stage c)) (omega (arith, lt)) (reaches s bytes d k)))
+pub one_status : (how : Manner) (bytes : List ℕ) (c d : Cause) → IsRefusedIn how bytes c → IsRefusedIn how bytes d → status_of (refusal_for c) ≡ status_of (refusal_for d)
+one_status how bytes c d h k = elim (cases_lt (stage c) (stage d)) [
+  | inl lt ↦ absurd (stops how bytes c h (below how.settings bytes (stage d) (suc (stage c)) (omega (arith, lt)) (reaches how bytes d k)))
   | inr ge ↦ elim (cases_lt (stage d) (stage c)) [
-    | inl lt ↦ absurd (stops s bytes d k (below s bytes (stage c) (suc (stage d)) (omega (arith, lt)) (reaches s bytes c h)))
+    | inl lt ↦ absurd (stops how bytes d k (below how.settings bytes (stage c) (suc (stage d)) (omega (arith, lt)) (reaches how bytes c h)))
     | inr le ↦ let e : stage c ≡ stage d = omega (arith, ge, le) in by_stage c ∙ ap status_at e ∙ sym (by_stage d)
   ]
 ]
 
 -- A source that can be rewritten isn't refused, but for the length of what is emitted.
-pub source_passes : (s : Settings) (bytes : List ℕ) (m : Module) (which : List Bool) (c : Cause) → IsRewritable s bytes m which → (IsLong c → ⊥) → IsRefusedFor s bytes c → ⊥
-source_passes s bytes m which c src short h =
-    let le = early c short in stops s bytes c h (below s bytes 7 (suc (stage c)) (omega (arith, le)) (m, which, src))
+pub source_passes : (how : Manner) (bytes : List ℕ) (m : Module) (which : List Bool) (c : Cause) → IsRewritable how.settings bytes m which → (IsLong c → ⊥) → IsRefusedIn how bytes c → ⊥
+source_passes how bytes m which c src short h =
+    let le = early c short in stops how bytes c h (below how.settings bytes 7 (suc (stage c)) (omega (arith, le)) (m, which, src))

@@ -1,4 +1,7 @@
-pub use Rattle.source_modules.specs.PolicyLaws
 pub mod Ends
+pub mod Manners
 pub mod Refusals
+pub mod Running
+pub mod SourceRefusals
+pub mod Sources
 pub mod Transforms

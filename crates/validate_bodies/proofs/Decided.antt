@@ -8,7 +8,7 @@ use Rattle.wa_types.specs.FirstFault.{FuncFault}
 use Rattle.wa_types.proofs.TypingLemmas.{less_on}
 use Rattle.wa_types.proofs.FaultLemmas.{all_hold_valid}
 use Rattle.validate_bodies.specs.Running.{Verdict, fine, fault, body_verdict, Answer, valid, invalid, func_answer, funcs_answer, outside_answer, module_answer}
-use Rattle.validate_bodies.specs.Laws.{Says}
+use Rattle.validate_bodies.specs.BodyVerdicts.{Says}
 use Rattle.validate_bodies.proofs.BodyVerdicts.{passes_typed, fails_fault}
 
 -- the functions before this one are typed

@@ -1,9 +1,9 @@
-pub use Rattle.validate_table.proofs.ContextLemmas
-pub use Rattle.validate_table.proofs.InstrKinds
-pub use Rattle.validate_table.proofs.LabelLemmas
-pub use Rattle.validate_table.proofs.SpaceLemmas
+pub mod BodyVerdicts
+pub mod ContextLemmas
 pub mod Decided
 pub mod Exact
+pub mod InstrKinds
+pub mod LabelLemmas
 pub mod Lists
-pub mod BodyVerdicts
+pub mod SpaceLemmas
 pub mod Trees

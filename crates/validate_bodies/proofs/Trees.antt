@@ -1,6 +1,5 @@
 -- What the validator computes of the code of a list of instructions.
-use Rattle.std.proofs.Common.{arith, ◌≡◌, ℕ, suc, ◌+◌, ◌<◌, ◌≤◌, List, [], ◌∷◌, ◌++◌, length, drop, reverse, get_or, Option, Some, None, Bool, true, false, if◌then◌else◌, refl, ap, sym, ◌∙◌}
-use Rattle.std.proofs.Common.{subst, Result, Ok, Err, IsErrAnd}
+use Rattle.std.proofs.Common.{arith, ◌≡◌, ℕ, suc, ◌+◌, ◌<◌, ◌≤◌, List, [], ◌∷◌, ◌++◌, length, drop, reverse, get_or, Option, Some, None, Bool, true, false, if◌then◌else◌, refl, ap, sym, ◌∙◌, subst, Result, Ok, Err, IsErrAnd}
 use Rattle.std.proofs.lemmas.List.{reverse-append}
 use Rattle.std.specs.declared.vec.Vec.{Vec}
 use Rattle.std.specs.declared.alloc.Global.{Global}
@@ -11,19 +10,18 @@ use Rattle.wa_types.specs.declared.values.ValType.{ValType}
 use Rattle.wa_types.specs.declared.values.ValType.TheVariants.{I32}
 use Rattle.wa_types.specs.declared.instrs.Instr.{Instr}
 use Rattle.wa_types.specs.declared.instrs.Instr.TheVariants.{Block, Loop, If}
-use Rattle.wa_types.specs.Syntax.{Plain, Shape, a_block, a_loop, Code, done, nest, branch}
+use Rattle.wa_types.specs.Syntax.{Plain, Shape, a_block, a_loop, Code, done, plain, nest, branch}
 use Rattle.wa_types.specs.View.{in_front, code}
 use Rattle.wa_types.specs.Typing.{Around, sig, listed, label}
 use Rattle.wa_types.specs.FirstFault.{size, mid}
 use Rattle.wa_types.proofs.ViewLemmas.{in_block, in_loop, in_if, code_step, code_empty}
 use Rattle.validate_bodies.specs.declared.bodies.Flaw.{Flaw}
 use Rattle.validate_bodies.specs.declared.bodies.Flaw.TheVariants.{Memory, Breaks}
-use Rattle.validate_table.specs.declared.table.Asks as D
+use Rattle.validate_bodies.specs.declared.table.Asks as D
 use Rattle.validate_bodies.specs.Running.{StackAfter, goes, stops, next, Verdict, fine, fault, both, onward, ended, knows, pop1, checks, body_verdict}
 use Rattle.validate_bodies.specs.Stack.{Applied, popped}
-use Rattle.validate_table.specs.Table.{sig_of}
-use Rattle.validate_table.specs.Table.{plain_of, Says}
-use Rattle.validate_table.proofs.InstrKinds.{is_block, is_loop, is_branch, is_plain, leaf_kind, size_plain, size_done, size_block, size_loop, size_if, size_step, size_empty}
+use Rattle.validate_bodies.specs.Table.{sig_of, plain_of, Says}
+use Rattle.validate_bodies.proofs.InstrKinds.{is_block, is_loop, is_branch, is_plain, leaf_kind, size_plain, size_done, size_block, size_loop, size_if, size_step, size_empty}
 use Rattle.validate_bodies.specs.Judging.{Judged, Blames}
 
 -- what the validator computes
@@ -47,6 +45,15 @@ judged_memory (Err f) k v w i = subst (λ (g : Flaw). Blames g k v) (sym i) tt
 at_number : (c : Around) (ls : List (Option ValType)) (k : Code) (outs : List ValType) (os : List (Option ValType)) (free : Bool) (m n : ℕ) → m ≡ n
     → checks c ls k outs os free m ≡ checks c ls k outs os free n
 at_number c ls k outs os free m n e = ap (checks c ls k outs os free) e
+
+go_on : (n : StackAfter) (k : ℕ) (go : List (Option ValType) → Bool → Verdict) (os : List (Option ValType)) (free : Bool) → Applied n None os free → onward n k go ≡ go os free
+go_on (goes os' free') k go os free h = ap (λ z. go z free') (sym h.0) ∙ ap (go os) (sym h.1)
+go_on (stops r) k go os free h = absurd h
+
+stop_at : (n : StackAfter) (k : ℕ) (q : Rule) (go : List (Option ValType) → Bool → Verdict) (os : List (Option ValType)) (free : Bool)
+    → Applied n (Some q) os free → onward n k go ≡ fault (number q) k
+stop_at (goes os' free') k q go os free h = absurd h
+stop_at (stops r) k q go os free h = ap (λ z. fault (number z) k) (sym h)
 
 module _ (c : Around) (ls : List (Option ValType)) (outs : List ValType) (os : List (Option ValType)) (free : Bool) (k : ℕ) (x : Instr) (rest : Code) where
   nested : (s : Shape) (l r : Option ValType) (xs : List Instr) → in_front x rest ≡ nest s r (code xs) rest → label s r ≡ l
@@ -96,17 +103,40 @@ module _ (c : Around) (ls : List (Option ValType)) (outs : List ValType) (os : L
 
   module _ (not_block : (r : Option ValType) (v : Vec Instr Global) → x ≡ Block r v → ⊥) (not_loop : (r : Option ValType) (v : Vec Instr Global) → x ≡ Loop r v → ⊥)
       (not_if : (r : Option ValType) (v w : Vec Instr Global) → x ≡ If r v w → ⊥) where
-    pub plain_is : (s : D.Asks) → Says (plain_of x) (λ p. sig_of s ≡ sig c ls p) → checks c ls (in_front x rest) outs os free k
-        ≡ onward (next (sig_of s) os free) k (λ os' free'. checks c ls rest outs os' free' (suc k))
+    plain_is : (p : Plain) → ((r : Code) → in_front x r ≡ plain p r) → checks c ls (in_front x rest) outs os free k
+        ≡ onward (next (sig c ls p) os free) k (λ os' free'. checks c ls rest outs os' free' (suc k))
     unfolding checks
-    plain_is s h = elim (leaf_kind x) [
+    plain_is p f = ap (λ z. checks c ls z outs os free k) (f rest)
+
+    -- what becomes of the rest behind an instruction that holds no other
+    pub plain_goes : (os' : List (Option ValType)) (free' : Bool) → Says (plain_of x) (λ p. Applied (next (sig c ls p) os free) None os' free')
+        → checks c ls (in_front x rest) outs os free k ≡ checks c ls rest outs os' free' (suc k)
+    plain_goes os' free' h = elim (leaf_kind x) [
       | is_block r v e ↦ absurd (not_block r v e)
       | is_loop r v e ↦ absurd (not_loop r v e)
       | is_branch r v w e ↦ absurd (not_if r v w e)
       | is_plain p e f ↦
-          (let g : sig_of s ≡ sig c ls p = subst (λ (o : Option Plain). Says o (λ p. sig_of s ≡ sig c ls p)) e h in
-          ap (λ z. checks c ls z outs os free k) (f rest) ∙ ap (λ z. onward (next z os free) k (λ os' free'. checks c ls rest outs os' free' (suc k))) (sym g))
+          (let g : Applied (next (sig c ls p) os free) None os' free' = subst (λ (o : Option Plain). Says o (λ p. Applied (next (sig c ls p) os free) None os' free')) e h in
+          plain_is p f ∙ go_on (next (sig c ls p) os free) k (λ os' free'. checks c ls rest outs os' free' (suc k)) os' free' g)
     ]
+
+    -- the rule that it breaks
+    pub plain_stops : (q : Rule) (os' : List (Option ValType)) (free' : Bool) → Says (plain_of x) (λ p. Applied (next (sig c ls p) os free) (Some q) os' free')
+        → checks c ls (in_front x rest) outs os free k ≡ fault (number q) k
+    plain_stops q os' free' h = elim (leaf_kind x) [
+      | is_block r v e ↦ absurd (not_block r v e)
+      | is_loop r v e ↦ absurd (not_loop r v e)
+      | is_branch r v w e ↦ absurd (not_if r v w e)
+      | is_plain p e f ↦
+          (let g : Applied (next (sig c ls p) os free) (Some q) os' free' = subst (λ (o : Option Plain). Says o (λ p. Applied (next (sig c ls p) os free) (Some q) os' free')) e h in
+          plain_is p f ∙ stop_at (next (sig c ls p) os free) k q (λ os' free'. checks c ls rest outs os' free' (suc k)) os' free' g)
+    ]
+
+-- what an instruction does to the operands, told by what it asks of them
+pub says_applied : (o : Option Plain) (c : Around) (ls os now : List (Option ValType)) (free free' : Bool) (r : Option Rule) (s : D.Asks) → Says o (λ p. sig_of s ≡ sig c ls p)
+    → Applied (next (sig_of s) os free) r now free' → Says o (λ p. Applied (next (sig c ls p) os free) r now free')
+says_applied None c ls os now free free' r s h a = tt
+says_applied (Some p) c ls os now free free' r s h a = subst (λ z. Applied (next z os free) r now free') h a
 
 pub plain_size : (x : Instr) → ((r : Option ValType) (v : Vec Instr Global) → x ≡ Block r v → ⊥) → ((r : Option ValType) (v : Vec Instr Global) → x ≡ Loop r v → ⊥)
     → ((r : Option ValType) (v w : Vec Instr Global) → x ≡ If r v w → ⊥) → size (in_front x done) ≡ 1
@@ -132,15 +162,6 @@ module _ (x : Instr) (r : Option ValType) (v : Vec Instr Global) (xs : List Inst
 pub none_is : {A : Type 0} (o : Option A) → ((q : A) → o ≡ Some q → ⊥) → o ≡ None
 none_is None f = refl
 none_is (Some q) f = absurd (f q refl)
-
-pub go_on : (n : StackAfter) (k : ℕ) (go : List (Option ValType) → Bool → Verdict) (os : List (Option ValType)) (free : Bool) → Applied n None os free → onward n k go ≡ go os free
-go_on (goes os' free') k go os free h = ap (λ z. go z free') (sym h.0) ∙ ap (go os) (sym h.1)
-go_on (stops r) k go os free h = absurd h
-
-pub stop_at : (n : StackAfter) (k : ℕ) (q : Rule) (go : List (Option ValType) → Bool → Verdict) (os : List (Option ValType)) (free : Bool)
-    → Applied n (Some q) os free → onward n k go ≡ fault (number q) k
-stop_at (goes os' free') k q go os free h = absurd h
-stop_at (stops r) k q go os free h = ap (λ z. fault (number z) k) (sym h)
 
 pub judged_same : {B : Type 0} (res : Result B Flaw) (e : Flaw) (k : ℕ) (v x y : Verdict) → IsErrAnd res (λ f. f ≡ e) → Blames e k v → y ≡ v → Judged res k y x
 judged_same (Ok u) e k v x y i j h = absurd i

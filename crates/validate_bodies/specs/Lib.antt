@@ -1,7 +1,6 @@
-pub use Rattle.validate_table.specs.Spaces
-pub use Rattle.validate_table.specs.Table
-pub use Rattle.validate_table.specs.declared.table.Asks
+pub mod BodyVerdicts
 pub mod Judging
-pub mod Laws
 pub mod Running
+pub mod Spaces
 pub mod Stack
+pub mod Table

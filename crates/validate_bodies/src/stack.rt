@@ -4,10 +4,11 @@ ghost use Rattle.std.specs.Prelude.{◌≡◌, [], ◌∷◌, ◌++◌, length, 
 ghost use Rattle.wa_types.specs.Typing.{listed};
 ghost use Rattle.validate_bodies.specs.Running.{pop1, pops, knows, ended, next, dropped, two};
 ghost use Rattle.validate_bodies.specs.Stack.{known, Deep, Level, Applied, popped, passed};
-ghost use Rattle.validate_table.specs.Table.{sig_of, tested};
+ghost use Rattle.validate_bodies.specs.Table.{sig_of, tested};
 
+use crate::table::{Asks, listing};
 use std::alloc::{AllocError, AllocFailed};
-use validate_table::{Asks, listing, same_types};
+use wa_ops::same_types;
 use wa_types::{Rule, ValType};
 
 /// Operands of all open constructs: those from `base` on are of the innermost one, and where `free` more may lie below them.
@@ -222,6 +223,7 @@ fn is_bare(o: &Operands) -> bool
 }
 
 // Whether the operands are the results, at an end. Takes them off.
+#[inline(never)]
 #[tactic(auto, using(crate::proofs::Lists::ending))]
 pub(crate) fn ends(o: &mut Operands, gives: Option<ValType>) -> bool
     requires { Deep o.old }
@@ -241,7 +243,8 @@ pub(crate) fn ends(o: &mut Operands, gives: Option<ValType>) -> bool
 }
 
 // Puts the result of a construct on the operands.
-#[tactic(auto, using(validate_table::proofs::LabelLemmas::listing))]
+#[inline(never)]
+#[tactic(auto, using(crate::proofs::LabelLemmas::listing))]
 pub(crate) fn push_result(o: &mut Operands, r: Option<ValType>) -> Result<(), AllocError>
     requires { Deep o.old }
     ensures level { IfOk result (λ _. Level o.old o.new) }

@@ -1,8 +1,12 @@
 -- Files that are fetched in pieces.
-use Rattle.std.proofs.Common.{◌≡◌, ◌⊎◌, ◌<◌, ◌≤◌, ◌+◌, ℕ, List, length, take, Option, Some, None, sym, ap, ◌∙◌, subst, inl, inr, arith}
+use Rattle.std.proofs.Common.{◌≡◌, ◌⊎◌, ◌<◌, ◌≤◌, ◌+◌, ℕ, List, length, take, Option, Some, None, Result, Ok, Err, refl, sym, ap, ◌∙◌, subst, inl, inr, arith}
 use Rattle.std.proofs.lemmas.List.{take_all}
+use Rattle.std.specs.Prelude.{◌↔◌, IsErr, IsErrOf}
+use Rattle.vault_port.specs.declared.vault.VaultFail.{VaultFail}
+use Rattle.vault_port.specs.declared.vault.VaultFail.TheVariants.{Absent, Failed, Memory}
+use Rattle.vault_port.specs.Counts.{FailsOnce, FailsAtMostOnce}
 use Rattle.vault_port.specs.Told.{WhereTold}
-use Rattle.vault_port.specs.Files.{Files, bytes_of, HoldsFront, FetchesMore}
+use Rattle.vault_port.specs.Files.{Files, bytes_of, CannotRead, HoldsFront, FetchesMore}
 
 -- what is told of the same files
 pub told_at : {A : Type 0} (P : A → Type 0) (o p : Option A) → p ≡ o → WhereTold p P → WhereTold o P
@@ -46,3 +50,29 @@ told_whole name before room fetched held all_held done n k limit (Some all) p ke
     let bytes = bytes_of all name in
     let now : FetchesMore bytes done n room fetched = told_at (λ all. FetchesMore (bytes_of all name) done n room fetched) (Some all) p kept more in
     cut ∙ all_there bytes held (done + n) limit (front_more bytes before room fetched held done n same is front now) within (at_end bytes room fetched done n k limit long now free ends)
+
+-- ---- why a file couldn't be read
+
+none_there : (files : Option Files) (name : List ℕ) (f f' : ℕ) (r : Result ℕ VaultFail) → IsErrOf r Absent
+    → WhereTold files (λ all. IsErrOf r Absent ↔ (all name ≡ None)) → (IsErrOf r Absent → files ≡ None → FailsOnce f f')
+    → WhereTold files (λ all. IsErrOf r Absent → f' ≡ f) → CannotRead files name f f'
+none_there None name f f' r is absent untold stays = inl (untold is refl)
+none_there (Some all) name f f' r is absent untold stays = inr (absent.0 is, stays is)
+
+-- a fetch that gave no bytes
+pub cannot_read : (files : Option Files) (name : List ℕ) (f f' : ℕ) (r : Result ℕ VaultFail) → IsErr r → (IsErrOf r Memory → ⊥)
+    → WhereTold files (λ all. IsErrOf r Absent ↔ (all name ≡ None)) → (IsErrOf r Absent → files ≡ None → FailsOnce f f')
+    → WhereTold files (λ all. IsErrOf r Absent → f' ≡ f) → (IsErrOf r Failed → FailsOnce f f') → CannotRead files name f f'
+cannot_read files name f f' (Ok n) is memory absent untold stays failed = cc
+cannot_read files name f f' (Err Absent) is memory absent untold stays failed = none_there files name f f' (Err Absent) refl absent untold stays
+cannot_read files name f f' (Err Failed) is memory absent untold stays failed = inl (failed refl)
+cannot_read files name f f' (Err Memory) is memory absent untold stays failed = absurd (memory refl)
+
+-- behind fetches that didn't fail
+pub cannot_since : (files mid : Option Files) (name : List ℕ) (f g h : ℕ) → mid ≡ files → g ≡ f → CannotRead mid name g h → CannotRead files name f h
+cannot_since files mid name f g h same still why =
+    subst (λ (k : ℕ). CannotRead files name k h) still (subst (λ (all : Option Files). CannotRead all name g h) same why)
+
+-- one fetch has failed at most
+pub read_once : (files : Option Files) (name : List ℕ) (f f' : ℕ) → CannotRead files name f f' → FailsAtMostOnce f f'
+read_once files name f f' why = elim why [ inl failed ↦ inr failed | inr missing ↦ inl missing.1 ]

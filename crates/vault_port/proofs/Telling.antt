@@ -1,5 +1,9 @@
 -- What is told, over several calls.
-use Rattle.std.proofs.Common.{Result, Ok, Err, OnErr, Option, Some, None}
+use Rattle.std.proofs.Common.{◌≡◌, ℕ, Result, Ok, Err, OnErr, Option, Some, None, refl, inl, inr}
+use Rattle.std.specs.Prelude.{IsErrOf}
+use Rattle.vault_port.specs.declared.whole.PutFault.{PutFault}
+use Rattle.vault_port.specs.declared.whole.PutFault.TheVariants.{Fault, Memory}
+use Rattle.vault_port.specs.Counts.{FailsOnce, FailsAtMostOnce}
 use Rattle.vault_port.specs.Told.{WhereTold, Becomes}
 
 -- one change after another
@@ -32,3 +36,13 @@ told_weaker P Q weaker (Some x) p = weaker x p
 pub OnErr_by : {T E P : Type 0} (r : Result T E) → P → OnErr r P
 OnErr_by (Ok x) p = tt
 OnErr_by (Err e) p = p
+
+-- ---- what a put has done to the count of faults
+
+module _ {T : Type 0} (p p' : ℕ) (r : Result T PutFault) (failed : IsErrOf r Fault → FailsOnce p p') (stays : (IsErrOf r Fault → ⊥) → p' ≡ p) where
+  pub put_once : FailsAtMostOnce p p'
+  put_once = by r failed stays where
+    by : (r : Result T PutFault) → (IsErrOf r Fault → FailsOnce p p') → ((IsErrOf r Fault → ⊥) → p' ≡ p) → FailsAtMostOnce p p'
+    by (Ok x) failed stays = inl (stays (λ e. cc))
+    by (Err Fault) failed stays = inr (failed refl)
+    by (Err Memory) failed stays = inl (stays (λ e. cc))

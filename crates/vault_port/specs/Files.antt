@@ -1,5 +1,6 @@
 -- The files of a vault, and what the calls do to them.
 use Rattle.std.specs.Prelude.{◌≡◌, ◌≢◌, ◌⊎◌, ◌+◌, ◌-◌, ◌≤◌, ℕ, List, [], ◌++◌, length, take, drop, Option, Some, None, unwrap_or}
+use Rattle.vault_port.specs.Counts.{FailsOnce}
 
 -- what each name holds; None where there is no file of that name
 abbrev pub Files : Type 0
@@ -50,3 +51,7 @@ pub record HoldsFrontAtMost (name bytes : List ℕ) (old new : Files) : Type 0 w
 abbrev pub IsMissing : Option Files → List ℕ → Type 0
 IsMissing None name = ⊥
 IsMissing (Some files) name = files name ≡ None
+
+-- A file couldn't be read: one fetch more has failed, or the files are told, there is none of this name, and no fetch has failed.
+abbrev pub CannotRead : Option Files → List ℕ → (faults faults' : ℕ) → Type 0
+CannotRead files name faults faults' = FailsOnce faults faults' ⊎ (IsMissing files name × (faults' ≡ faults))

@@ -1,5 +1,5 @@
 -- The bytes that a sink has taken.
-use Rattle.std.specs.Prelude.{◌≡◌, ◌<◌, ℕ, List, ◌++◌, length, take}
+use Rattle.std.specs.Prelude.{◌≡◌, ◌<◌, ◌≤◌, ℕ, List, ◌++◌, length, take}
 
 -- these bytes came behind the old ones
 abbrev pub Appends : List ℕ → List ℕ → List ℕ → Type 0
@@ -8,3 +8,7 @@ Appends bytes old new = new ≡ old ++ bytes
 -- some first bytes of these, and not all of them, came behind the old ones
 abbrev pub AppendsLess : List ℕ → List ℕ → List ℕ → Type 0
 AppendsLess bytes old new = (n : ℕ) × (n < length bytes) × (new ≡ old ++ take n bytes)
+
+-- .. at least so many of them
+abbrev pub AppendsPast : (least : ℕ) → List ℕ → List ℕ → List ℕ → Type 0
+AppendsPast least bytes old new = (n : ℕ) × (least ≤ n) × (n < length bytes) × (new ≡ old ++ take n bytes)

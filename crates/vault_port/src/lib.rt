@@ -9,10 +9,10 @@
 //!   change: what was told still is, and is changed so; what wasn't told still isn't (`specs/Told.antt`). The words
 //!   for changes stand in `specs/Files.antt`: `ChangesOnly name bytes` says what one file holds and that the others
 //!   are as before.
-//! - `fetch_faults`, `save_faults` and a sink's `faults`: how many calls have failed. They never fall. An error that
-//!   comes from the outside comes only where its count rose: `HasRisen old new`. So a program can't make up such an
-//!   error, and over an object whose count is always 0 there is none. A count that stands at the greatest u64 counts
-//!   as risen (`specs/Counts.antt`).
+//! - `fetch_faults`, `save_faults` and a sink's `faults`: how many calls have failed. They never fall. A call that
+//!   fails for the outside raises its count by exactly one, `FailsOnce old new`, and no other call does. So a program
+//!   can't make up such an error, over an object whose count is always 0 there is none, and none that was met is
+//!   passed over in silence. A count stands still at the greatest u64 (`specs/Counts.antt`).
 //! - `taken`: the bytes that a sink has taken, where it tells them.
 //!
 //! Calls may take less than they are given. `fetch_whole`, `save_whole` and `put_whole` go on until all is done, and

@@ -1,8 +1,8 @@
 //! The trait `Sink`: where printed bytes go.
 
-ghost use Rattle.std.specs.Prelude.{◌≡◌, ◌≤◌, ℕ, List, length, take, Option, IfOk, OnErr, IsErrOf};
+ghost use Rattle.std.specs.Prelude.{◌≡◌, ◌≢◌, ◌≤◌, ℕ, List, length, take, Option, IfOk, OnErr, IsErrOf};
 ghost use Rattle.vault_port.specs.declared.sink.SinkFail.TheVariants.{Memory};
-ghost use Rattle.vault_port.specs.Counts.{HasRisen};
+ghost use Rattle.vault_port.specs.Counts.{FailsOnce};
 ghost use Rattle.vault_port.specs.Told.{Becomes};
 ghost use Rattle.vault_port.specs.Taken.{Appends};
 
@@ -35,7 +35,7 @@ pub trait Sink {
     ghost faults: { Self → ℕ };
 
     /// Takes the first bytes of a piece and answers how many: at least one, unless the piece is empty. After an
-    /// error nothing was taken. `Failed`: only after a fault.
+    /// error nothing was taken. `Failed`: after a fault, which the count tells, and no other answer is.
     fn put(&mut self, piece: &[u8]) -> Result<usize, SinkFail>
         ensures count { IfOk result (λ n. n ≤ length piece.now) }
         ensures some { IfOk result (λ n. n ≡ 0 → length piece.now ≡ 0) }
@@ -43,6 +43,7 @@ pub trait Sink {
             (Appends (take n piece.now))) }
         ensures kept { OnErr result (taken self.new ≡ taken self.old) }
 
-        ensures failed { IsErrOf result SinkFail.Failed → HasRisen (faults self.old) (faults self.new) }
+        ensures failed { IsErrOf result SinkFail.Failed → FailsOnce (faults self.old) (faults self.new) }
+        ensures stays { result ≢ Err SinkFail.Failed → faults self.new ≡ faults self.old }
         ensures rising { faults self.old ≤ faults self.new };
 }

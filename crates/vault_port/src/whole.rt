@@ -1,10 +1,10 @@
 //! Whole files and whole pieces of output, over calls that may take less than they are given.
 
-ghost use Rattle.std.specs.Prelude.{◌≡◌, ◌⊎◌, ◌+◌, ◌≤◌, ◌<◌, length, take, IfOk, OnOk, OnErr, IsErrOf, IsSome, vec_len};
+ghost use Rattle.std.specs.Prelude.{◌≡◌, ◌≢◌, ◌⊎◌, ◌+◌, ◌≤◌, ◌<◌, length, take, IfOk, OnOk, OnErr, IsErrOf, IsSome, vec_len};
 ghost use Rattle.vault_port.specs.declared.whole.FetchFault.TheVariants.{Memory};
-ghost use Rattle.vault_port.specs.Counts.{HasRisen};
+ghost use Rattle.vault_port.specs.Counts.{FailsOnce};
 ghost use Rattle.vault_port.specs.Told.{WhereTold, Becomes};
-ghost use Rattle.vault_port.specs.Files.{bytes_of, IsMissing, FetchesMore, ChangesOnly, HoldsFrontAtMost};
+ghost use Rattle.vault_port.specs.Files.{bytes_of, CannotRead, FetchesMore, ChangesOnly, HoldsFrontAtMost};
 ghost use Rattle.vault_port.specs.Taken.{Appends, AppendsLess};
 
 use crate::{Sink, SinkFail, Vault, VaultFail};
@@ -51,7 +51,7 @@ const FIRST_ROOM: usize = 65_536;
 
 /// Reads a file up to its end, or until `limit` bytes are there. Takes time linear in what it reads, and room for
 /// at most twice as much, or for 64 KiB. `Read`: after a fault, or where the vault tells that there is no such
-/// file. No file changes.
+/// file. No file changes, and behind a fetch that failed there is no other.
 pub fn fetch_whole<V: Vault>(
     alloc: Global,
     vault: &mut V,
@@ -65,8 +65,8 @@ pub fn fetch_whole<V: Vault>(
     ensures kept { V.files vault.new ≡ V.files vault.old }
 
     ensures read { IsErrOf result FetchFault.Read
-        → HasRisen (V.fetch_faults vault.old) (V.fetch_faults vault.new)
-        ⊎ IsMissing (V.files vault.old) name.now }
+        → CannotRead (V.files vault.old) name.now (V.fetch_faults vault.old) (V.fetch_faults vault.new) }
+    ensures stays { result ≢ Err FetchFault.Read → V.fetch_faults vault.new ≡ V.fetch_faults vault.old }
     ensures faults { V.fetch_faults vault.old ≤ V.fetch_faults vault.new }
     ensures saves { V.save_faults vault.new ≡ V.save_faults vault.old }
 {
@@ -120,8 +120,8 @@ fn fetch_behind<V: Vault>(
     ensures kept { V.files vault.new ≡ V.files vault.old }
 
     ensures read { IsErrOf result FetchFault.Read
-        → HasRisen (V.fetch_faults vault.old) (V.fetch_faults vault.new)
-        ⊎ IsMissing (V.files vault.old) name.now }
+        → CannotRead (V.files vault.old) name.now (V.fetch_faults vault.old) (V.fetch_faults vault.new) }
+    ensures stays { result ≢ Err FetchFault.Read → V.fetch_faults vault.new ≡ V.fetch_faults vault.old }
     ensures faults { V.fetch_faults vault.old ≤ V.fetch_faults vault.new }
     ensures saves { V.save_faults vault.new ≡ V.save_faults vault.old }
 {
@@ -133,7 +133,8 @@ fn fetch_behind<V: Vault>(
 }
 
 /// Makes a file these bytes, going on after each save that takes less. Where there are none, the file is made or
-/// emptied. After an error it is as before or holds some first bytes of these. `Write`: only after a fault.
+/// emptied. After an error it is as before or holds some first bytes of these. `Write`: after a fault, behind which
+/// nothing is saved.
 pub fn save_whole<V: Vault>(vault: &mut V, name: &str, bytes: &[u8]) -> Result<(), SaveFault>
     ensures saved { OnOk result (Becomes (V.files vault.old) (V.files vault.new)
         (ChangesOnly name.now bytes.now)) }
@@ -141,7 +142,8 @@ pub fn save_whole<V: Vault>(vault: &mut V, name: &str, bytes: &[u8]) -> Result<(
         (HoldsFrontAtMost name.now bytes.now)) }
 
     ensures write { IsErrOf result SaveFault.Write
-        → HasRisen (V.save_faults vault.old) (V.save_faults vault.new) }
+        → FailsOnce (V.save_faults vault.old) (V.save_faults vault.new) }
+    ensures stays { result ≢ Err SaveFault.Write → V.save_faults vault.new ≡ V.save_faults vault.old }
     ensures faults { V.save_faults vault.old ≤ V.save_faults vault.new }
     ensures fetches { V.fetch_faults vault.new ≡ V.fetch_faults vault.old }
 {
@@ -160,13 +162,14 @@ pub fn save_whole<V: Vault>(vault: &mut V, name: &str, bytes: &[u8]) -> Result<(
 }
 
 /// Prints these bytes, going on after each put that takes less. After an error the sink has taken some first bytes
-/// of these, and not all. `Fault`: only after a fault.
+/// of these, and not all. `Fault`: after a fault, behind which nothing is put.
 pub fn put_whole<S: Sink>(out: &mut S, bytes: &[u8]) -> Result<(), PutFault>
     ensures taken { OnOk result (Becomes (S.taken out.old) (S.taken out.new) (Appends bytes.now)) }
     ensures less { OnErr result (Becomes (S.taken out.old) (S.taken out.new)
         (AppendsLess bytes.now)) }
 
-    ensures fault { IsErrOf result PutFault.Fault → HasRisen (S.faults out.old) (S.faults out.new) }
+    ensures fault { IsErrOf result PutFault.Fault → FailsOnce (S.faults out.old) (S.faults out.new) }
+    ensures stays { result ≢ Err PutFault.Fault → S.faults out.new ≡ S.faults out.old }
     ensures faults { S.faults out.old ≤ S.faults out.new }
 {
     let mut done = 0usize;

@@ -1,16 +1,16 @@
 -- Small runs that the definitions compute.
-use Rattle.std.proofs.Common.{arith, ◌≡◌, ◌<◌, ◌≤◌, ℕ, zero, suc, List, [], ◌∷◌, ◌++◌, take, Some, None, true, false, refl}
+use Rattle.std.proofs.Common.{All, arith, ◌≡◌, ◌<◌, ◌≤◌, ◌+◌, ℕ, zero, suc, List, [], ◌∷◌, ◌++◌, take, Some, None, true, false, refl}
 use Rattle.std.specs.Prelude.{Option, slice_get, replicate, codes}
 use Rattle.wa_types.specs.declared.values.ValType.TheVariants.{I32, I64}
 use Rattle.wa_types.specs.declared.values.Value.{Value}
 use Rattle.wa_types.specs.declared.values.Value.TheVariants as V
-use Rattle.wa_types.specs.declared.values.Trap.TheVariants.{DivideByZero, UndefinedElement, UninitializedElement, TypeMismatch, Unreachable, StackExhausted}
+use Rattle.wa_types.specs.declared.values.Trap.TheVariants.{DivideByZero, UndefinedElement, UninitializedElement, TypeMismatch, Unreachable, StackExhausted, OutOfBounds, Import as ByImport}
 use Rattle.wa_types.specs.declared.operators.NumOp.TheVariants.{I32Add, I32Sub, I32Eq, I64DivU, I64ExtendI32U}
 use Rattle.wa_types.specs.declared.syntax.Import.{Import}
 use Rattle.wa_types.specs.declared.syntax.ImportKind.TheVariants as K
 use Rattle.wa_types.specs.declared.syntax.Export.{Export}
 use Rattle.wa_types.specs.declared.syntax.Space.TheVariants as Sp
-use Rattle.wa_types.specs.Syntax.{Basic, drop, const, num, global_get, global_set, return, unreachable, load, store, memory_grow, basic, local_get, local_set, local_tee, br_if, br_table}
+use Rattle.wa_types.specs.Syntax.{Basic, drop, const, num, global_get, global_set, return, unreachable, load, store, memory_grow, memory_copy, memory_fill, basic, local_get, local_set, local_tee, br_if, br_table}
 use Rattle.wa_types.specs.Syntax.{call, call_indirect, Code, done, plain, nest, branch, a_block, a_loop, FuncType, Func, Module}
 use Rattle.wa_types.specs.Pruned.{pruned}
 use Rattle.wa_types.specs.Base.{Base}
@@ -19,18 +19,22 @@ use Rattle.wa_types.specs.Bounds.{code_weight, Bound}
 use Rattle.wa_types.specs.Points.{points, call_points}
 use Rattle.wa_types.specs.Liveness.{behind_calls, live}
 use Rattle.wa_types.specs.Runtime.{with_runtime}
+use Rattle.wa_model.specs.declared.answers.Said.TheVariants as S
 use Rattle.wa_model.specs.declared.events.End.TheVariants.{Done, Trapped, UnwindTrap, RewindTrap, BadAnswer, BadPoke, PauseInStart, Broken}
-use Rattle.wa_model.specs.Outside.{Answer, Event, called, answered, paused, returned, ended}
+use Rattle.wa_model.specs.Outside.{Poke, Answer, Event, called, answered, paused, returned, ended}
 use Rattle.wa_types.specs.Memory.{bytes_at}
 use Rattle.wa_types.specs.Frames.{Suspended, Image}
-use Rattle.wa_model.specs.Store.{Store, works, act}
+use Rattle.std.proofs.lemmas.List.Elements.{All-cons, All-nil}
+use Rattle.wa_model.specs.Store.{Range, Store, works, fails, act}
 use Rattle.wa_model.specs.Configuration.{Activation, running, waiting}
 use Rattle.wa_model.specs.Step.{Next, steps, traps, step}
+use Rattle.wa_model.specs.declared.answers.Area.{Area}
 use Rattle.wa_model.specs.Plan.{Entry, Plan, Outcome, given}
-use Rattle.wa_model.specs.Untouched.{Untouched}
+use Rattle.wa_model.specs.Untouched.{StaysOff, Untouched}
 use Rattle.wa_model.specs.Blocking.{Note, no_store, events_of, Blocking, blocking_run}
 use Rattle.wa_model.specs.Protocol.{Protocol}
 use Rattle.wa_model.specs.Expected.{Expected}
+use Rattle.wa_model.proofs.StayingOff.{is_off, nothing_off, one_off, both_off, range}
 use Rattle.wa_model.specs.Behaves.{IsPrefix, expected_notes, protocol_notes, pause_stacks, without_pauses}
 
 abbrev i32 : ℕ → Value
@@ -50,7 +54,10 @@ abbrev export_of : ℕ → Export
 export_of x = record { name = codes "run"; space = Sp.Func; index = x }
 
 abbrev answer : Option Value → ℕ → Outcome
-answer v ticks = given (record { value = v; pokes = []; ticks = ticks })
+answer v ticks = given (record { said = S.Value v; pokes = []; ticks = ticks })
+
+abbrev trap_with : List Poke → ℕ → Outcome
+trap_with pokes ticks = given (record { said = S.Trap; pokes = pokes; ticks = ticks })
 
 abbrev call_of : ℕ → List Value → Event
 call_of i args = called (record { import = i; args = args })
@@ -71,8 +78,13 @@ module_with f = record {
   customs = [];
 }
 
+-- bytes of the memory at a note
+abbrev bytes_of_note : Option Note → ℕ → ℕ → List ℕ
+bytes_of_note None at len = []
+bytes_of_note (Some x) at len = bytes_at x.store.memory at len
+
 abbrev plan_of : ℕ → List Entry → Plan
-plan_of len entries = record { globals = []; entries = entries; area = record { at = 0; len = len }; listed = Some (true ∷ []) }
+plan_of len entries = record { globals = []; entries = entries; area = record { at = 0; len = len }; others = []; listed = Some (true ∷ []) }
 
 abbrev entry : ℕ → List Value → Entry
 entry x args = record { func = x; args = args }
@@ -93,18 +105,18 @@ abbrev selected : ℕ → List Event
 selected n = events_of (Blocking selector (plan_of 64 both) (answer (Some (i32 1)) 0 ∷ answer (Some (i32 2)) 0 ∷ []) n).events
 
 -- 15 for the first entry and 13 for the second
-selects : selected 28 ≡ call_of 0 (i32 14 ∷ []) ∷ answered (Some (i32 1)) ∷ returned 0 (Some (i32 1)) ∷ call_of 0 (i32 9 ∷ []) ∷ answered (Some (i32 2)) ∷ returned 1 (Some (i32 2)) ∷ ended Done ∷ []
+selects : selected 28 ≡ call_of 0 (i32 14 ∷ []) ∷ answered (S.Value (Some (i32 1))) ∷ returned 0 (Some (i32 1)) ∷ call_of 0 (i32 9 ∷ []) ∷ answered (S.Value (Some (i32 2))) ∷ returned 1 (Some (i32 2)) ∷ ended Done ∷ []
 unfolding Base
 selects = refl
 
-selects_not_within_27 : selected 27 ≡ call_of 0 (i32 14 ∷ []) ∷ answered (Some (i32 1)) ∷ returned 0 (Some (i32 1)) ∷ call_of 0 (i32 9 ∷ []) ∷ answered (Some (i32 2)) ∷ []
+selects_not_within_27 : selected 27 ≡ call_of 0 (i32 14 ∷ []) ∷ answered (S.Value (Some (i32 1))) ∷ returned 0 (Some (i32 1)) ∷ call_of 0 (i32 9 ∷ []) ∷ answered (S.Value (Some (i32 2))) ∷ []
 unfolding Base
 selects_not_within_27 = refl
 
 -- with pauses: each takes 28 bytes of the area
 selects_paused : events_of (Expected selector save_all (record { at = 0; len = 64 }) (Blocking selector (plan_of 64 both)
-    (answer (Some (i32 1)) 1 ∷ answer (Some (i32 2)) 1 ∷ []) 28).events) ≡ call_of 0 (i32 14 ∷ []) ∷ paused 1 28 ∷ answered (Some (i32 1)) ∷ returned 0 (Some (i32 1))
-    ∷ call_of 0 (i32 9 ∷ []) ∷ paused 1 28 ∷ answered (Some (i32 2)) ∷ returned 1 (Some (i32 2)) ∷ ended Done ∷ []
+    (answer (Some (i32 1)) 1 ∷ answer (Some (i32 2)) 1 ∷ []) 28).events) ≡ call_of 0 (i32 14 ∷ []) ∷ paused 1 28 ∷ answered (S.Value (Some (i32 1))) ∷ returned 0 (Some (i32 1))
+    ∷ call_of 0 (i32 9 ∷ []) ∷ paused 1 28 ∷ answered (S.Value (Some (i32 2))) ∷ returned 1 (Some (i32 2)) ∷ ended Done ∷ []
 unfolding pruned calls_of points Base
 selects_paused = refl
 
@@ -122,7 +134,7 @@ abbrev tens : List Outcome
 tens = answer (Some (i32 10)) 0 ∷ answer (Some (i32 20)) 4 ∷ answer (Some (i32 30)) 0 ∷ []
 
 abbrev asked_thrice : ℕ → List Event
-asked_thrice room = call_of 0 (i32 3 ∷ []) ∷ answered (Some (i32 10)) ∷ call_of 0 (i32 2 ∷ []) ∷ paused 4 room ∷ answered (Some (i32 20)) ∷ call_of 0 (i32 1 ∷ []) ∷ answered (Some (i32 30)) ∷ []
+asked_thrice room = call_of 0 (i32 3 ∷ []) ∷ answered (S.Value (Some (i32 10))) ∷ call_of 0 (i32 2 ∷ []) ∷ paused 4 room ∷ answered (S.Value (Some (i32 20))) ∷ call_of 0 (i32 1 ∷ []) ∷ answered (S.Value (Some (i32 30))) ∷ []
 
 abbrev counted : ℕ → List Event
 counted room = asked_thrice room ++ returned 0 (Some (i32 60)) ∷ ended Done ∷ []
@@ -146,9 +158,16 @@ counts_live = refl
 
 -- in an area of 27 bytes the frame doesn't fit
 short : events_of (Expected countdown save_all (record { at = 0; len = 27 }) (Blocking countdown (plan_of 27 (entry 1 (i32 3 ∷ []) ∷ [])) tens 100).events) ≡ call_of 0 (i32 3 ∷ [])
-    ∷ answered (Some (i32 10)) ∷ call_of 0 (i32 2 ∷ []) ∷ ended (UnwindTrap Unreachable 8 27) ∷ []
+    ∷ answered (S.Value (Some (i32 10))) ∷ call_of 0 (i32 2 ∷ []) ∷ ended (UnwindTrap Unreachable 8 27) ∷ []
 unfolding pruned calls_of points Base
 short = refl
+
+-- the second answer is a trap behind a pause: nothing follows, though an outcome and a cost are left
+traps_behind_pause : events_of (Expected countdown save_all (record { at = 0; len = 64 }) (Blocking countdown (plan_of 64 (entry 1 (i32 3 ∷ []) ∷ []))
+    (answer (Some (i32 10)) 0 ∷ trap_with [] 4 ∷ answer (Some (i32 30)) 0 ∷ []) 48).events) ≡ call_of 0 (i32 3 ∷ []) ∷ answered (S.Value (Some (i32 10))) ∷ call_of 0 (i32 2 ∷ [])
+    ∷ paused 4 28 ∷ answered S.Trap ∷ ended (Trapped ByImport) ∷ []
+unfolding pruned calls_of points Base
+traps_behind_pause = refl
 
 -- ---- division by zero after a pause
 abbrev divides : Module
@@ -174,11 +193,11 @@ divides = record {
 divides_by : ℕ → List Event
 divides_by n = events_of (Expected divides save_all (record { at = 0; len = 64 }) (Blocking divides (plan_of 64 (entry 1 [] ∷ [])) (answer (Some (i32 n)) 1 ∷ []) 40).events)
 
-by_thousand : divides_by 1000 ≡ call_of 0 (i32 2 ∷ []) ∷ paused 1 44 ∷ answered (Some (i32 1000)) ∷ returned 0 (Some (V.I64 5000000)) ∷ ended Done ∷ []
+by_thousand : divides_by 1000 ≡ call_of 0 (i32 2 ∷ []) ∷ paused 1 44 ∷ answered (S.Value (Some (i32 1000))) ∷ returned 0 (Some (V.I64 5000000)) ∷ ended Done ∷ []
 unfolding divides_by pruned calls_of points Base
 by_thousand = refl
 
-by_zero : divides_by 0 ≡ call_of 0 (i32 2 ∷ []) ∷ paused 1 44 ∷ answered (Some (i32 0)) ∷ ended (Trapped DivideByZero) ∷ []
+by_zero : divides_by 0 ≡ call_of 0 (i32 2 ∷ []) ∷ paused 1 44 ∷ answered (S.Value (Some (i32 0))) ∷ ended (Trapped DivideByZero) ∷ []
 unfolding divides_by pruned calls_of points Base
 by_zero = refl
 
@@ -235,7 +254,7 @@ unfolding Base
 pays_no_more = refl
 
 -- the table may hold the import itself
-table_import : indirectly 1 20 ≡ call_of 0 (i32 7 ∷ []) ∷ answered (Some (i32 9)) ∷ returned 0 (Some (i32 9)) ∷ ended Done ∷ []
+table_import : indirectly 1 20 ≡ call_of 0 (i32 7 ∷ []) ∷ answered (S.Value (Some (i32 9))) ∷ returned 0 (Some (i32 9)) ∷ ended Done ∷ []
 unfolding Base
 table_import = refl
 
@@ -287,9 +306,12 @@ arm_not_within_four = refl
 abbrev touches : Code → Module
 touches body = record seven { types = record { params = []; results = [] } ∷ []; memories = record { min = 1; max = None } ∷ []; funcs = record { sort = 0; locals = []; body = body } ∷ [] }
 
--- a run of it with an area of 64 bytes from here on
+-- 64 bytes from here on, and a run with this area
+abbrev bytes_from : ℕ → Area
+bytes_from at = record { at = at; len = 64 }
+
 abbrev area_from : ℕ → Plan
-area_from at = record (plan_of 64 (entry 0 [] ∷ [])) { area = record { at = at; len = 64 } }
+area_from at = record (plan_of 64 (entry 0 [] ∷ [])) { area = bytes_from at }
 
 each_of_four : (P : ℕ → Type 0) → P 0 → P 1 → P 2 → P 3 → (j : ℕ) → j < 4 → P j
 each_of_four P p q r s zero h = p
@@ -304,21 +326,115 @@ stores = touches (then (const (i32 60)) (then (const (i32 7)) (then (store 0x36 
 
 store_touches : Untouched stores (area_from 0) [] 4 → ⊥
 unfolding Base
-store_touches h = let e : true ≡ false = h 3 (omega arith) (let fits : 64 ≤ 65536 = omega arith in fits) in cc
+store_touches h = let e : true ≡ false = is_off (bytes_from 0) 65536 60 4 (h 3 (omega arith)) (omega arith) in cc
 
 store_behind : Untouched stores (area_from 64) [] 4
 unfolding Base
-store_behind = each_of_four _ tt tt tt (λ h. refl)
+store_behind =
+    let none = nothing_off (bytes_from 64) 65536 in
+    each_of_four _ tt none none (one_off (bytes_from 64) 65536 60 4 (λ le. refl))
 
 -- a load of byte 63
 load_touches : Untouched (touches (then (const (i32 63)) (then (load 0x2D 0 0) (then drop done)))) (area_from 0) [] 3 → ⊥
 unfolding Base
-load_touches h = let e : true ≡ false = h 2 (omega arith) (let fits : 64 ≤ 65536 = omega arith in fits) in cc
+load_touches h = let e : true ≡ false = is_off (bytes_from 0) 65536 63 1 (h 2 (omega arith)) (omega arith) in cc
 
 -- a load of bytes 65,534 to 65,537 traps, and touches none
 trap_touches_none : Untouched (touches (then (const (i32 65534)) (then (load 0x28 2 0) (then drop done)))) (area_from 65472) [] 4
 unfolding Base
-trap_touches_none = each_of_four _ tt tt (λ h. let fits : 65538 ≤ 65536 = h in absurd (omega arith)) tt
+trap_touches_none =
+    each_of_four _ tt (nothing_off (bytes_from 65472) 65536) (one_off (bytes_from 65472) 65536 65534 4 (λ le. absurd (omega (arith, le)))) tt
+
+-- of two ranges the second touches the area
+abbrev InPage : Range → Type 0
+InPage x = x.at + x.len ≤ 65536
+
+second_touches : StaysOff (bytes_from 0) 65536 (range 100 8 ∷ range 60 8 ∷ []) → ⊥
+second_touches h =
+    let first : 100 + 8 ≤ 65536 = omega arith in
+    let second : 60 + 8 ≤ 65536 = omega arith in
+    let inside : All InPage (range 100 8 ∷ range 60 8 ∷ []) = All-cons InPage (range 100 8) (range 60 8 ∷ []) first (All-cons InPage (range 60 8) [] second (All-nil InPage)) in
+    let e : true ≡ false = h inside 1 (range 0 0) (omega arith) in cc
+
+-- where the first passes the end the second may touch it, and one of no byte touches none
+first_past_end : StaysOff (bytes_from 0) 65536 (range 65530 8 ∷ range 60 8 ∷ [])
+first_past_end = λ inside. absurd (let le : 65530 + 8 ≤ 65536 = inside 0 (range 0 0) (omega arith) in omega (arith, le))
+
+no_byte_touches_none : StaysOff (bytes_from 0) 65536 (range 8 0 ∷ [])
+no_byte_touches_none = one_off (bytes_from 0) 65536 8 0 (λ le. refl)
+
+-- ---- copies and fills: what they reach, and what they cost
+abbrev copies : (to from len : ℕ) → Module
+copies to from len = touches (then (const (i32 to)) (then (const (i32 from)) (then (const (i32 len)) (then memory_copy done))))
+
+each_of_five : (P : ℕ → Type 0) → P 0 → P 1 → P 2 → P 3 → P 4 → (j : ℕ) → j < 5 → P j
+each_of_five P p q r s t zero h = p
+each_of_five P p q r s t (suc j) h = each_of_four (λ i. P (suc i)) q r s t j (omega arith)
+
+-- 1 for the entry and 3 for the constants, and then a copy of bytes 60 to 67, of which four are in the area
+source_touches : Untouched (copies 100 60 8) (area_from 0) [] 5 → ⊥
+unfolding Base
+source_touches h = second_touches (h 4 (omega arith))
+
+-- one of length 0 inside the area
+empty_copy_touches_none : Untouched (copies 8 8 0) (area_from 0) [] 5
+unfolding Base
+empty_copy_touches_none =
+    let none = nothing_off (bytes_from 0) 65536 in
+    each_of_five _ tt none none none (both_off (bytes_from 0) 65536 (range 8 0) (range 8 0) refl refl)
+
+-- one into the area whose source passes the end: it traps
+trapping_copy_touches_none : Untouched (copies 65480 65534 4) (area_from 65472) [] 5
+unfolding Base
+trapping_copy_touches_none =
+    let none = nothing_off (bytes_from 65472) 65536 in
+    each_of_five _ tt none none none (λ inside. absurd (let le : 65534 + 4 ≤ 65536 = inside 1 (range 0 0) (omega arith) in omega (arith, le)))
+
+abbrev copy_events : (to from len n : ℕ) → List Event
+copy_events to from len n = events_of (blocking_run (copies to from len) (plan_of 64 (entry 0 [] ∷ [])) [] n).events
+
+-- a copy of 8 bytes costs 9: 1 for the entry, 3 for the constants, 9, and 1 for the end
+copy_within_fourteen : copy_events 100 60 8 14 ≡ returned 0 None ∷ ended Done ∷ []
+unfolding Base
+copy_within_fourteen = refl
+
+copy_not_within_thirteen : copy_events 100 60 8 13 ≡ []
+unfolding Base
+copy_not_within_thirteen = refl
+
+-- one that traps costs 1
+trapping_copy_within_five : copy_events 65480 65534 4 5 ≡ ended (Trapped OutOfBounds) ∷ []
+unfolding Base
+trapping_copy_within_five = refl
+
+trapping_copy_not_within_four : copy_events 65480 65534 4 4 ≡ []
+unfolding Base
+trapping_copy_not_within_four = refl
+
+abbrev with_bytes : List ℕ → Store
+with_bytes bytes = record { globals = []; memory = bytes; table = [] }
+
+abbrev five_bytes : Store
+five_bytes = with_bytes (1 ∷ 2 ∷ 3 ∷ 4 ∷ 5 ∷ [])
+
+copies_up : act None memory_copy five_bytes (i32 3 ∷ i32 0 ∷ i32 1 ∷ []) ≡ works (with_bytes (1 ∷ 1 ∷ 2 ∷ 3 ∷ 5 ∷ [])) []
+copies_up = refl
+
+copies_down : act None memory_copy five_bytes (i32 3 ∷ i32 2 ∷ i32 0 ∷ []) ≡ works (with_bytes (3 ∷ 4 ∷ 5 ∷ 4 ∷ 5 ∷ [])) []
+copies_down = refl
+
+copies_none_at_end : act None memory_copy five_bytes (i32 0 ∷ i32 5 ∷ i32 5 ∷ []) ≡ works five_bytes []
+copies_none_at_end = refl
+
+copies_none_past_end : act None memory_copy five_bytes (i32 0 ∷ i32 6 ∷ i32 0 ∷ []) ≡ fails OutOfBounds
+copies_none_past_end = refl
+
+-- the low bits of the value
+fills_with_low_bits : act None memory_fill five_bytes (i32 3 ∷ i32 0x1FE ∷ i32 2 ∷ []) ≡ works (with_bytes (1 ∷ 2 ∷ 0xFE ∷ 0xFE ∷ 0xFE ∷ [])) []
+fills_with_low_bits = refl
+
+fills_none_past_end : act None memory_fill five_bytes (i32 0 ∷ i32 7 ∷ i32 6 ∷ []) ≡ fails OutOfBounds
+fills_none_past_end = refl
 
 -- ---- answers that end a run
 abbrev asks_once : Module
@@ -328,24 +444,50 @@ abbrev asked_with : Answer → List Event
 asked_with a = events_of (Blocking asks_once (plan_of 64 (entry 1 (i32 7 ∷ []) ∷ [])) (given a ∷ []) 20).events
 
 -- of a wrong type
-wrong_type : asked_with (record { value = Some (V.I64 5); pokes = []; ticks = 1 }) ≡ call_of 0 (i32 7 ∷ []) ∷ ended (BadAnswer 0 (Some (V.I64 5))) ∷ []
+wrong_type : asked_with (record { said = S.Value (Some (V.I64 5)); pokes = []; ticks = 1 }) ≡ call_of 0 (i32 7 ∷ []) ∷ ended (BadAnswer 0 (Some (V.I64 5))) ∷ []
 unfolding Base
 wrong_type = refl
 
-no_value : asked_with (record { value = None; pokes = []; ticks = 0 }) ≡ call_of 0 (i32 7 ∷ []) ∷ ended (BadAnswer 0 None) ∷ []
+no_value : asked_with (record { said = S.Value None; pokes = []; ticks = 0 }) ≡ call_of 0 (i32 7 ∷ []) ∷ ended (BadAnswer 0 None) ∷ []
 unfolding Base
 no_value = refl
 
 -- with a poke into the area, of which byte 63 is the last
-pokes_area : asked_with (record { value = Some (i32 5); pokes = record { at = 64; bytes = 1 ∷ 2 ∷ [] } ∷ record { at = 63; bytes = 1 ∷ 2 ∷ [] } ∷ []; ticks = 0 }) ≡ call_of 0 (i32 7 ∷ [])
+pokes_area : asked_with (record { said = S.Value (Some (i32 5)); pokes = record { at = 64; bytes = 1 ∷ 2 ∷ [] } ∷ record { at = 63; bytes = 1 ∷ 2 ∷ [] } ∷ []; ticks = 0 }) ≡ call_of 0 (i32 7 ∷ [])
     ∷ ended (BadPoke 63 2) ∷ []
 unfolding Base
 pokes_area = refl
 
 -- with a poke past the memory
-pokes_past : asked_with (record { value = Some (i32 5); pokes = record { at = 65533; bytes = 1 ∷ 2 ∷ 3 ∷ 4 ∷ [] } ∷ []; ticks = 0 }) ≡ call_of 0 (i32 7 ∷ []) ∷ ended (BadPoke 65533 4) ∷ []
+pokes_past : asked_with (record { said = S.Value (Some (i32 5)); pokes = record { at = 65533; bytes = 1 ∷ 2 ∷ 3 ∷ 4 ∷ [] } ∷ []; ticks = 0 }) ≡ call_of 0 (i32 7 ∷ []) ∷ ended (BadPoke 65533 4) ∷ []
 unfolding Base
 pokes_past = refl
+
+-- ---- an import that traps, in the first of two entries: its poke stays, no zero is returned, and no entry follows
+abbrev trapped_with : List Poke → List Note
+trapped_with pokes = (Blocking asks_once (plan_of 64 (entry 1 (i32 7 ∷ []) ∷ entry 1 (i32 8 ∷ []) ∷ [])) (trap_with pokes 0 ∷ answer (Some (i32 5)) 0 ∷ []) 20).events
+
+abbrev trap_events : List Event
+trap_events = call_of 0 (i32 7 ∷ []) ∷ answered S.Trap ∷ ended (Trapped ByImport) ∷ []
+
+abbrev a_poke : List Poke
+a_poke = record { at = 64; bytes = 1 ∷ 2 ∷ [] } ∷ []
+
+import_traps_once : events_of (trapped_with a_poke) ≡ trap_events
+unfolding Base
+import_traps_once = refl
+
+poke_stays : bytes_of_note (slice_get (trapped_with a_poke) 2) 63 4 ≡ 0 ∷ 1 ∷ 2 ∷ 0 ∷ []
+unfolding Base
+poke_stays = refl
+
+-- its pokes are tested as any others
+trap_pokes_area : events_of (trapped_with (record { at = 63; bytes = 1 ∷ 2 ∷ [] } ∷ [])) ≡ call_of 0 (i32 7 ∷ []) ∷ ended (BadPoke 63 2) ∷ []
+unfolding Base
+trap_pokes_area = refl
+
+not_a_zero : trap_events ≡ call_of 0 (i32 7 ∷ []) ∷ answered S.Trap ∷ returned 0 (Some (i32 0)) ∷ ended Done ∷ [] → ⊥
+not_a_zero e = cc
 
 -- ---- a pause in start
 abbrev starts : Module
@@ -370,9 +512,20 @@ pause_in_start : start_paused 1 ≡ call_of 0 (i32 0 ∷ []) ∷ ended (PauseInS
 unfolding Base
 pause_in_start = refl
 
-no_pause_in_start : start_paused 0 ≡ call_of 0 (i32 0 ∷ []) ∷ answered (Some (i32 1)) ∷ ended Done ∷ []
+no_pause_in_start : start_paused 0 ≡ call_of 0 (i32 0 ∷ []) ∷ answered (S.Value (Some (i32 1))) ∷ ended Done ∷ []
 unfolding Base
 no_pause_in_start = refl
+
+abbrev start_trapped : ℕ → List Event
+start_trapped ticks = events_of (Blocking starts (plan_of 64 []) (trap_with [] ticks ∷ []) 20).events
+
+traps_in_start : start_trapped 0 ≡ call_of 0 (i32 0 ∷ []) ∷ answered S.Trap ∷ ended (Trapped ByImport) ∷ []
+unfolding Base
+traps_in_start = refl
+
+no_trap_behind_pause_in_start : start_trapped 1 ≡ call_of 0 (i32 0 ∷ []) ∷ ended (PauseInStart 0) ∷ []
+unfolding Base
+no_trap_behind_pause_in_start = refl
 
 -- ---- two calls in a row, of which none is instrumented: the second comes while the program unwinds
 abbrev asks_twice : Module
@@ -407,20 +560,16 @@ by_hand = with_runtime (module_with (record {
 }))
 
 abbrev by_hand_plan : Plan
-by_hand_plan = record { globals = []; entries = entry 1 (i32 7 ∷ []) ∷ []; area = record { at = 1024; len = 64 }; listed = Some (true ∷ []) }
+by_hand_plan = record { globals = []; entries = entry 1 (i32 7 ∷ []) ∷ []; area = record { at = 1024; len = 64 }; others = []; listed = Some (true ∷ []) }
 
 abbrev by_hand_events : ℕ → List Event
 by_hand_events n = events_of (Protocol by_hand by_hand_plan (answer (Some (i32 42)) 5 ∷ []) n).events
 
-pauses_and_goes_on : by_hand_events 200 ≡ call_of 0 (i32 7 ∷ []) ∷ paused 5 20 ∷ answered (Some (i32 42)) ∷ returned 0 (Some (i32 42)) ∷ ended Done ∷ []
+pauses_and_goes_on : by_hand_events 200 ≡ call_of 0 (i32 7 ∷ []) ∷ paused 5 20 ∷ answered (S.Value (Some (i32 42))) ∷ returned 0 (Some (i32 42)) ∷ ended Done ∷ []
 unfolding with_runtime Base
 pauses_and_goes_on = refl
 
 -- the note of the pause has the frame behind the two words: the argument, the slot and the number of the call
-abbrev bytes_of_note : Option Note → ℕ → ℕ → List ℕ
-bytes_of_note None at len = []
-bytes_of_note (Some x) at len = bytes_at x.store.memory at len
-
 frame_at_pause : bytes_of_note (slice_get (Protocol by_hand by_hand_plan (answer (Some (i32 42)) 5 ∷ []) 200).events 1) 1024 20 ≡ 0x14 ∷ 4 ∷ 0 ∷ 0 ∷ 0x40 ∷ 4 ∷ 0 ∷ 0 ∷ 7 ∷ 0 ∷ 0 ∷ 0 ∷ 7 ∷ 0
     ∷ 0 ∷ 0 ∷ 0 ∷ 0 ∷ 0 ∷ 0 ∷ []
 unfolding with_runtime Base
@@ -431,6 +580,18 @@ frame_at_answer : bytes_of_note (slice_get (Protocol by_hand by_hand_plan (answe
     ∷ 0 ∷ 0 ∷ 0 ∷ 0 ∷ 0 ∷ 0 ∷ []
 unfolding with_runtime Base
 frame_at_answer = refl
+
+-- a trap behind a pause is told once the module has rewound, with its poke
+abbrev hand_trapped : List Note
+hand_trapped = (Protocol by_hand by_hand_plan (trap_with a_poke 5 ∷ answer (Some (i32 42)) 0 ∷ []) 200).events
+
+pauses_and_traps : events_of hand_trapped ≡ call_of 0 (i32 7 ∷ []) ∷ paused 5 20 ∷ answered S.Trap ∷ ended (Trapped ByImport) ∷ []
+unfolding with_runtime Base
+pauses_and_traps = refl
+
+hand_poked : bytes_of_note (slice_get hand_trapped 3) 63 4 ≡ 0 ∷ 1 ∷ 2 ∷ 0 ∷ []
+unfolding with_runtime Base
+hand_poked = refl
 
 -- ---- the stack at a call: the call in the second arm of an if is the second one of its function
 abbrev calls_in_arms : Module
@@ -546,7 +707,7 @@ hand_reaches = ([], refl)
 
 hand_follows : IsPrefix (events_of (protocol_notes by_hand by_hand_plan hand_answers 20)) (events_of (expected_notes asks_once every_import by_hand_plan hand_answers 20))
 unfolding with_runtime pruned calls_of points Base
-hand_follows = (paused 5 20 ∷ answered (Some (i32 42)) ∷ returned 0 (Some (i32 42)) ∷ ended Done ∷ [], refl)
+hand_follows = (paused 5 20 ∷ answered (S.Value (Some (i32 42))) ∷ returned 0 (Some (i32 42)) ∷ ended Done ∷ [], refl)
 
 hand_image : Image asks_once every_import (false ∷ true ∷ []) (stack_of_note (slice_get (expected_notes asks_once every_import by_hand_plan hand_answers 6) 1)) 1024 64
     (bytes_of_note (slice_get (protocol_notes by_hand by_hand_plan hand_answers 200) 1) 0 65536)

@@ -1,8 +1,10 @@
 -- Runs of a module whose imports block: each call of an import is answered at once.
 use Rattle.std.specs.Prelude.{ℕ, zero, suc, ◌+◌, nat_lt, nat_le, not, ◌&&◌, if◌then◌else◌, List, [], ◌∷◌, ◌++◌, length, map, Option, Some, None, Bool, true, false, slice_get}
+use Rattle.std.specs.List.{list_all}
 use Rattle.std.specs.Option.{option_to_list}
 use Rattle.wa_types.specs.declared.values.ValType.{ValType}
 use Rattle.wa_types.specs.declared.values.Value.{Value}
+use Rattle.wa_types.specs.declared.values.Trap.TheVariants.{Import}
 use Rattle.wa_types.specs.Syntax.{Func, Module}
 use Rattle.wa_types.specs.Memory.{overwritten}
 use Rattle.wa_types.specs.Modules.{func_imports, func_type_at, defined_at}
@@ -11,6 +13,8 @@ use Rattle.wa_types.specs.Frames.{Suspended}
 use Rattle.wa_types.specs.Encoding.{same_type}
 use Rattle.wa_types.specs.Typing.{type_of}
 use Rattle.wa_model.specs.declared.answers.Area.{Area}
+use Rattle.wa_model.specs.declared.answers.Said.{Said}
+use Rattle.wa_model.specs.declared.answers.Said.TheVariants as S
 use Rattle.wa_model.specs.declared.events.End.{End}
 use Rattle.wa_model.specs.declared.events.End.TheVariants.{Done, Trapped, BadAnswer, BadPoke, PauseInStart, UnlistedPause}
 use Rattle.wa_model.specs.Outside.{Poke, Answer, Event, called, answered, returned, ended}
@@ -22,8 +26,7 @@ use Rattle.wa_model.specs.Plan.{Entry, Plan, Outcome, given, refused}
 use Rattle.wa_types.specs.Base.{Base}
 use Rattle.wa_model.specs.Instantiation.{Opening, fails_as, opens, opening}
 
--- An event, the store at it, and, for a call, the stack just before it and, where its answer pauses, the ticks. An answer
--- behind a pause tells the store of that pause.
+-- An event and the store at it; of a call the stack just before it, and the ticks where it pauses; of an answer behind a pause that pause's store.
 pub record Note : Type 0 where
   pub event : Event
   pub store : Store
@@ -55,14 +58,18 @@ answers _ _ = false
 abbrev pub overlap : (at len at' len' : ℕ) → Bool
 overlap at len at' len' = nat_lt 0 len && nat_lt 0 len' && nat_lt at (at' + len') && nat_lt at' (at + len)
 
--- a poke lies inside a memory of this size, and off the area
-abbrev pub poke_fits : (size : ℕ) → Area → Poke → Bool
-poke_fits size area p = nat_le (p.at + length p.bytes) size && not (overlap p.at (length p.bytes) area.at area.len)
+-- a poke lies off an area
+abbrev pub is_off : Poke → Area → Bool
+is_off p area = not (overlap p.at (length p.bytes) area.at area.len)
+
+-- a poke lies inside a memory of this size, and off the areas
+abbrev pub poke_fits : (size : ℕ) → List Area → Poke → Bool
+poke_fits size areas p = nat_le (p.at + length p.bytes) size && list_all (is_off p) areas
 
 -- the first poke that doesn't
-abbrev pub bad_poke : (size : ℕ) → Area → List Poke → Option End
-bad_poke size area [] = None
-bad_poke size area (p ∷ ps) = if poke_fits size area p then bad_poke size area ps else Some (BadPoke p.at (length p.bytes))
+abbrev pub bad_poke : (size : ℕ) → List Area → List Poke → Option End
+bad_poke size areas [] = None
+bad_poke size areas (p ∷ ps) = if poke_fits size areas p then bad_poke size areas ps else Some (BadPoke p.at (length p.bytes))
 
 -- an import is told as unlisted
 abbrev pub is_unlisted : Option (List Bool) → ℕ → Bool
@@ -80,12 +87,15 @@ abbrev pub or_else : Option End → Option End → Option End
 or_else None second = second
 or_else (Some e) second = Some e
 
--- The first test that an answer fails: its value is of the import's result type; every poke lies inside the memory and
--- off the area; where it pauses, the call isn't inside the start function, and the import isn't told as unlisted.
+-- the end by a value of another type than the import's result; a trap is no value
+abbrev pub bad_value : List ValType → (import : ℕ) → Said → Option End
+bad_value results import (S.Value v) = if answers results v then None else Some (BadAnswer import v)
+bad_value results import S.Trap = None
+
+-- The first test that an answer fails: a trap or a value of the type; pokes inside the memory, off the areas; no pause in start, or of one told as unlisted.
 abbrev pub fault_of : List ValType → (size : ℕ) → Plan → (in_start : Bool) → (import : ℕ) → Answer → Option End
 fault_of results size plan in_start import a =
-    or_else (if answers results a.value then None else Some (BadAnswer import a.value))
-    (or_else (bad_poke size plan.area a.pokes) (bad_pause in_start (is_unlisted plan.listed import) import a.ticks))
+    or_else (bad_value results import a.said) (or_else (bad_poke size (plan.area ∷ plan.others) a.pokes) (bad_pause in_start (is_unlisted plan.listed import) import a.ticks))
 
 -- the ticks of an answer that pauses
 abbrev pub pause_of : (ticks : ℕ) → Option ℕ
@@ -176,13 +186,17 @@ next_entry l = record { number = suc l.number; entries = l.entries; outcomes = l
 -- the start function or an entry has returned
 abbrev pub task_back : ℕ → Task → List Value → Store → Left → Turn State Note
 task_back k the_start results s l = goes k (done_notes s l.entries) (on_to s l l.entries)
-task_back k (an_entry e) results s l =
-    goes k (note (returned l.number (value_of_results results)) s ∷ done_notes s l.entries) (on_to s (next_entry l) l.entries)
+task_back k (an_entry e) results s l = goes k (note (returned l.number (value_of_results results)) s ∷ done_notes s l.entries) (on_to s (next_entry l) l.entries)
 
--- the answer is given to what waits for it
-abbrev pub go_on : ℕ → Note → Answer → Store → Left → Asker → Turn State Note
-go_on k x a s l (inside task c) = goes k (x ∷ note (answered a.value) s ∷ []) (runs task (resumed c s (option_to_list a.value)) l)
-go_on k x a s l (outermost old) = goes k (x ∷ note (answered a.value) s ∷ done_notes s l.entries) (on_to s l l.entries)
+-- an import that traps is told as it is answered, and ends the program
+abbrev pub import_traps : Store → List Note
+import_traps s = note (answered S.Trap) s ∷ note (ended (Trapped Import)) s ∷ []
+
+-- what is said is told, and a value given to what waits for it
+abbrev pub go_on : ℕ → Note → Said → Store → Left → Asker → Turn State Note
+go_on k x (S.Value v) s l (inside task c) = goes k (x ∷ note (answered (S.Value v)) s ∷ []) (runs task (resumed c s (option_to_list v)) l)
+go_on k x (S.Value v) s l (outermost old) = goes k (x ∷ note (answered (S.Value v)) s ∷ done_notes s l.entries) (on_to s l l.entries)
+go_on k x S.Trap s l w = goes k (x ∷ import_traps s) (halts s)
 
 -- a call is told, and then the end
 abbrev pub ends_at_call : ℕ → Note → End → Turn State Note
@@ -191,14 +205,13 @@ ends_at_call k x e = goes k (x ∷ note (ended e) x.store ∷ []) (halts x.store
 -- by the first test that the answer fails
 abbrev pub tested : Module → ℕ → (import : ℕ) → List Value → Asker → Left → Answer → Option End → Turn State Note
 tested m k import args w l a (Some e) = ends_at_call k (call_note import args (store_at w) (stack_at m w) None) e
-tested m k import args w l a None = go_on k (call_note import args (store_at w) (stack_at m w) (pause_of a.ticks)) a (poked (store_at w) a.pokes) l w
+tested m k import args w l a None = go_on k (call_note import args (store_at w) (stack_at m w) (pause_of a.ticks)) a.said (poked (store_at w) a.pokes) l w
 
 -- A call of an import makes Called and takes the next outcome. Where none is left the run stands there.
 abbrev pub asked : Module → Plan → ℕ → (import : ℕ) → List Value → Asker → Left → List Outcome → Turn State Note
 asked m plan k import args w l [] = goes k (call_note import args (store_at w) (stack_at m w) None ∷ []) (halts (store_at w))
 asked m plan k import args w l (refused e ∷ os) = ends_at_call k (call_note import args (store_at w) (stack_at m w) None) e
-asked m plan k import args w l (given a ∷ os) =
-    tested m k import args w (with_outcomes l os) a (fault_of (func_type_at m import).results (length (store_at w).memory) plan (in_start w) import a)
+asked m plan k import args w l (given a ∷ os) = tested m k import args w (with_outcomes l os) a (fault_of (func_type_at m import).results (length (store_at w).memory) plan (in_start w) import a)
 
 -- by the module's own reduction
 abbrev pub by_step : Module → Plan → Task → Left → Next → Turn State Note
@@ -258,8 +271,7 @@ continued m plan n r = after r.events (run (blocking m plan) n r.last)
 abbrev pub blocking_run : Module → Plan → List Outcome → ℕ → Ran State Note
 blocking_run m plan os n = continued m plan n (begun m.start (all_left plan os) (opening m plan.globals))
 
--- The notes of a run with blocking imports up to a total cost of n, and where it then stands: instantiation, the start
--- function and the entries in order, each call of an import being one step.
+-- The notes of a blocking run up to a cost of n, and where it stands: instantiation, start, then the entries in order; an import's call is one step.
 abbrev pub Blocking : Module → Plan → List Outcome → ℕ → Ran State Note
 Blocking m plan os n = blocking_run (Base m) plan os n
 

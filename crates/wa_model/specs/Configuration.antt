@@ -8,18 +8,13 @@ use Rattle.wa_types.specs.Pausing.{Callee, calls_of, calls_in}
 use Rattle.wa_types.specs.Frames.{Suspended}
 use Rattle.wa_model.specs.Store.{Store}
 
--- A label: what a branch to it goes on with, and the instructions left behind it (4.2.12). `height` is the number
--- of the function's operands below the construct.
+-- A label: what a branch to it goes on with, and what is left behind it (4.2.12). `height` counts the operands below the construct.
 pub data Label : Type 0 where
-  -- of a block or an if: a branch carries so many values and goes on behind the construct. `skipped` is the arm that
-  -- stands behind the one that runs.
-  block_label : (height arity : ℕ) → (rest skipped : Code) → Label
-  -- of a loop: a branch carries none and begins the body again
-  loop_label : (height : ℕ) → (body rest : Code) → Label
+  block_label : (height arity : ℕ) → (rest skipped : Code) → Label  -- of a block or an if: a branch carries so many values and goes on behind it; `skipped` is the arm behind the one that runs
+  loop_label : (height : ℕ) → (body rest : Code) → Label  -- of a loop: a branch carries none and begins the body again
 
--- An activation of a defined function (4.2.12): the function's index, its locals, its operands, the topmost first,
--- the operands that the call took at which it waits, the code that stands next, and the labels around it, the
--- innermost first.
+-- An activation of a defined function (4.2.12): its index, locals and operands, the topmost first, those that the call took at which it
+-- waits, the code that stands next, and the labels around it, the innermost first.
 pub record Activation : Type 0 where
   pub func : ℕ
   pub locals : List Value
@@ -36,13 +31,11 @@ pub record Configuration : Type 0 where
 
 -- a configuration whose innermost activation runs
 abbrev pub running : Store → ℕ → List Activation → (locals operands : List Value) → Code → List Label → Configuration
-running s fn under ls ops code labels =
-    record { store = s; here = record { func = fn; locals = ls; operands = ops; taken = []; code = code; labels = labels }; under = under }
+running s fn under ls ops code labels = record { store = s; here = record { func = fn; locals = ls; operands = ops; taken = []; code = code; labels = labels }; under = under }
 
 -- an activation that waits at a call, which took operands from it
 abbrev pub waiting : ℕ → (locals operands taken : List Value) → Code → List Label → Activation
-waiting fn ls ops taken code labels =
-    record { func = fn; locals = ls; operands = ops; taken = taken; code = code; labels = labels }
+waiting fn ls ops taken code labels = record { func = fn; locals = ls; operands = ops; taken = taken; code = code; labels = labels }
 
 -- how many calls stand in code that can be reached
 abbrev pub call_count : Code → ℕ
@@ -65,8 +58,7 @@ place_of (Some f) code labels = length (calls_in f) - suc (call_count code + cal
 
 -- an activation that waits at a call, as it stood just before
 abbrev pub suspended : Module → Activation → Suspended
-suspended m a =
-    record { func = a.func; place = place_of (defined_at m a.func) a.code a.labels; locals = a.locals; operands = a.taken ++ a.operands }
+suspended m a = record { func = a.func; place = place_of (defined_at m a.func) a.code a.labels; locals = a.locals; operands = a.taken ++ a.operands }
 
 -- the stack of a configuration that waits at a call, the innermost activation first
 abbrev pub stack_of : Module → Configuration → List Suspended

@@ -1,5 +1,5 @@
 -- What a rewritten module has to show of a run with blocking imports: the same events, and its pauses.
-use Rattle.std.specs.Prelude.{◌≡◌, ℕ, ◌+◌, ◌≤◌, ◌<◌, nat_lt, if◌then◌else◌, List, [], ◌∷◌, length, Option, Some, None, slice_get}
+use Rattle.std.specs.Prelude.{◌≡◌, ℕ, ◌+◌, ◌≤◌, ◌<◌, nat_lt, if◌then◌else◌, List, [], ◌∷◌, length, Option, Some, None, Bool, slice_get}
 use Rattle.wa_types.specs.declared.values.Trap.TheVariants.{Unreachable}
 use Rattle.wa_types.specs.Syntax.{Module}
 use Rattle.wa_types.specs.Pausing.{Policy}
@@ -14,25 +14,23 @@ use Rattle.wa_model.specs.Blocking.{Note, note}
 abbrev pub pause_note : (ticks room : ℕ) → Store → List Suspended → Note
 pause_note ticks room s stack = record { event = paused ticks room; store = s; stack = stack; pause = None; since = None }
 
--- the end where the frames of a stack don't fit the area
+-- the trap of an unwind in an area of this length, of which so many bytes are in use then
 abbrev pub trap_note : (used len : ℕ) → Store → Note
 trap_note used len s = note (ended (UnwindTrap Unreachable used len)) s
 
--- a note with what stands behind it: where it is a call that pauses, the pause or the trap
-abbrev pub shown_at : (room fit : List Suspended → ℕ) → (len : ℕ) → Note → Option ℕ → (rest : List Note) → List Note
-shown_at room fit len x None rest = x ∷ rest
-shown_at room fit len x (Some ticks) rest =
-    x ∷ (if nat_lt len (room x.stack) then trap_note (fit x.stack) len x.store ∷ [] else pause_note ticks (room x.stack) x.store x.stack ∷ rest)
+-- a note with what stands behind it: where it is a call that pauses, the pause, or the trap where the unwind of its stack traps
+abbrev pub shown_at : (traps : List Suspended → Bool) → (room used : List Suspended → ℕ) → (len : ℕ) → Note → Option ℕ → (rest : List Note) → List Note
+shown_at traps room used len x None rest = x ∷ rest
+shown_at traps room used len x (Some ticks) rest = x ∷ (if traps x.stack then trap_note (used x.stack) len x.store ∷ [] else pause_note ticks (room x.stack) x.store x.stack ∷ rest)
 
--- Between a call that pauses and its answer stands the pause. Where the room of the stack passes the area's length there
--- stands the trap instead, and nothing follows. Both find the store as it is at the call.
-abbrev pub shown : (room fit : List Suspended → ℕ) → (len : ℕ) → List Note → List Note
-shown room fit len [] = []
-shown room fit len (x ∷ xs) = shown_at room fit len x x.pause (shown room fit len xs)
+-- Between a call that pauses and its answer stands the pause; where the unwind of its stack traps, the trap, and nothing follows. Both find the store as at the call.
+abbrev pub shown : (traps : List Suspended → Bool) → (room used : List Suspended → ℕ) → (len : ℕ) → List Note → List Note
+shown traps room used len [] = []
+shown traps room used len (x ∷ xs) = shown_at traps room used len x x.pause (shown traps room used len xs)
 
--- the notes of a run with blocking imports, with its pauses
+-- the notes of a run with blocking imports, with its pauses: an unwind traps where the stack's room passes the area's length
 abbrev pub Expected : Module → Policy → Area → List Note → List Note
-Expected m policy area notes = shown (Room m policy) (λ stack. Fit m policy stack area.len) area.len notes
+Expected m policy area notes = shown (λ stack. nat_lt area.len (Room m policy stack)) (Room m policy) (λ stack. Fit m policy stack area.len) area.len notes
 
 -- The globals of the original, of which there are so many, the memory's size and the memory outside the area are equal.
 pub record SameEnd (globals : ℕ) (area : Area) (s s' : Store) : Type 0 where

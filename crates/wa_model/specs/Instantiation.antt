@@ -81,12 +81,8 @@ filled globals memory table elems bytes = elems_checked globals memory table ele
 abbrev pub opened_by : Module → (globals : List Value) → (pages entries : ℕ) → (pages_pass entries_pass : Bool) → Opening
 opened_by m globals pages entries true entries_pass = fails_as (HostLimit false pages)
 opened_by m globals pages entries false true = fails_as (HostLimit true entries)
-opened_by m globals pages entries false false =
-    filled globals (replicate (pages * page_size) 0) (replicate entries None) (map (elem_piece globals) m.elems) (map (byte_piece globals) m.segments)
+opened_by m globals pages entries false false = filled globals (replicate (pages * page_size) 0) (replicate entries None) (map (elem_piece globals) m.elems) (map (byte_piece globals) m.segments)
 
--- The instance of a module whose imported globals have these values, before its start function runs (4.5.4). A memory is
--- zeros of its declared minimum, a table has none of its elements initialised.
+-- The instance with these imported globals, before start runs (4.5.4): a zero memory and an uninitialised table of declared minimum, segments over them.
 abbrev pub opening : Module → List Value → Opening
-opening m imports =
-    opened_by m (all_values imports m) (least_of (all_memories m)) (least_of (all_tables m))
-    (nat_lt 1024 (least_of (all_memories m))) (nat_lt 100000 (least_of (all_tables m)))
+opening m imports = opened_by m (all_values imports m) (least_of (all_memories m)) (least_of (all_tables m)) (nat_lt 1024 (least_of (all_memories m))) (nat_lt 100000 (least_of (all_tables m)))

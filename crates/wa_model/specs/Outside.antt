@@ -1,6 +1,7 @@
 -- What a program is given and what it does, as plain data: whatever memory the vectors have.
 use Rattle.std.specs.Prelude.{ℕ, List, Option}
 use Rattle.wa_types.specs.declared.values.Value.{Value}
+use Rattle.wa_model.specs.declared.answers.Said.{Said}
 use Rattle.wa_model.specs.declared.events.End.{End}
 
 -- Bytes that an answer puts into the memory from a place on.
@@ -10,7 +11,7 @@ pub record Poke : Type 0 where
 
 -- What an import's call is answered.
 pub record Answer : Type 0 where
-  pub value : Option Value
+  pub said : Said
   pub pokes : List Poke
   pub ticks : ℕ
 
@@ -27,8 +28,9 @@ pub record AnswerLine : Type 0 where
 -- What a program does that can be seen from outside.
 pub data Event : Type 0 where
   called : (call : Call) → Event
-  answered : (value : Option Value) → Event
+  answered : (said : Said) → Event
   paused : (ticks used : ℕ) → Event
+  parked : (used : ℕ) → Event
   returned : (entry : ℕ) → (value : Option Value) → Event
   ended : (how : End) → Event
   shown : (at : ℕ) → (bytes : Option (List ℕ)) → Event

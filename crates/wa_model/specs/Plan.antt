@@ -13,6 +13,8 @@ use Rattle.wa_types.specs.Runtime.{runtime_names}
 use Rattle.wa_types.specs.Typing.{GlobalType}
 use Rattle.wa_ops.specs.Operate.{are_of}
 use Rattle.wa_model.specs.declared.answers.Area.{Area}
+use Rattle.wa_model.specs.declared.answers.Said.{Said}
+use Rattle.wa_model.specs.declared.answers.Said.TheVariants as S
 use Rattle.wa_model.specs.declared.events.End.{End}
 use Rattle.wa_model.specs.declared.events.End.TheVariants.{NoAnswer, OtherImport, DeviceFault, NoDevice}
 use Rattle.wa_model.specs.Outside.{Poke, Answer}
@@ -23,12 +25,12 @@ pub record Entry : Type 0 where
   pub func : ℕ
   pub args : List Value
 
--- A plan: the values of the imported globals, the entries, the range that is kept for suspended stacks, and, where
--- told, which function imports are listed.
+-- A plan: the values of imported globals, the entries, the range kept for suspended stacks, further ranges that answers leave alone, and, where told, which imports are listed.
 pub record Plan : Type 0 where
   pub globals : List Value
   pub entries : List Entry
   pub area : Area
+  pub others : List Area
   pub listed : Option (List Bool)
 
 -- What a new call of an import meets: an answer, or the end of the program.
@@ -79,9 +81,14 @@ abbrev pub ValueFits : Option Value → Type 0
 ValueFits None = Unit {0}
 ValueFits (Some v) = value_fits v
 
+-- so does what a call is told
+abbrev pub SaidFits : Said → Type 0
+SaidFits (S.Value v) = ValueFits v
+SaidFits S.Trap = Unit {0}
+
 -- so do all numbers of an answer
 pub record AnswerFits (a : Answer) : Type 0 where
-  pub value : ValueFits a.value
+  pub said : SaidFits a.said
   pub pokes : All PokeFits a.pokes
   pub ticks : a.ticks < 2 ^ 32
 

@@ -6,12 +6,15 @@ use Rattle.std.specs.List.{find}
 use Rattle.wa_types.specs.declared.values.Value.{Value}
 use Rattle.wa_types.specs.declared.values.Value.TheVariants as V
 use Rattle.wa_types.specs.declared.values.Trap.{Trap}
+use Rattle.wa_types.specs.declared.values.Trap.TheVariants.{Import}
 use Rattle.wa_types.specs.declared.syntax.Export.{Export}
 use Rattle.wa_types.specs.Syntax.{Func, Module}
 use Rattle.wa_types.specs.Memory.{bytes_of, bytes_at, number_of_bytes, overwritten}
 use Rattle.wa_types.specs.Modules.{func_imports, func_type_at, defined_at}
 use Rattle.wa_types.specs.Validity.{same_name}
 use Rattle.wa_model.specs.declared.answers.Area.{Area}
+use Rattle.wa_model.specs.declared.answers.Said.{Said}
+use Rattle.wa_model.specs.declared.answers.Said.TheVariants as S
 use Rattle.wa_model.specs.declared.events.End.{End}
 use Rattle.wa_model.specs.declared.events.End.TheVariants.{Trapped, UnwindTrap, RewindTrap, Broken}
 use Rattle.wa_model.specs.Outside.{Answer, answered, paused, returned, ended}
@@ -22,7 +25,7 @@ use Rattle.wa_model.specs.Step.{Next, steps, asks, returns, traps, stuck, zero_o
 use Rattle.wa_model.specs.Plan.{Entry, Plan, Outcome, given, refused}
 use Rattle.wa_model.specs.Instantiation.{Opening, fails_as, opens, opening}
 use Rattle.wa_model.specs.Blocking.{Note, note, call_note, fault_of, pause_of, poked, resumed, Task, the_start, an_entry, Left, with_outcomes, Asker, inside, outermost, store_at, stack_at}
-use Rattle.wa_model.specs.Blocking.{in_start, done_notes, value_of_results, next_entry, no_store, all_left}
+use Rattle.wa_model.specs.Blocking.{in_start, done_notes, import_traps, value_of_results, next_entry, no_store, all_left}
 
 -- The five exports, by the indices of their functions.
 pub record Exports : Type 0 where
@@ -59,21 +62,14 @@ pub data Phase : Type 0 where
 
 -- What the host does once an export has returned that it called.
 pub data Then : Type 0 where
-  -- after start_unwind the import's call is given a zero
-  give_zero : (waits : Configuration) → Then
-  -- after get_state, called once the entry has returned
-  test_unwound : Then
-  -- after stop_unwind the program is paused
-  pause_there : Then
-  -- after start_rewind the entry is called again
-  call_again : Then
-  -- after get_state, called at the suspended import
-  test_rewound : (waits : Configuration) → Then
-  -- after stop_rewind the answer is given
-  give_answer : (waits : Configuration) → Then
+  give_zero : (waits : Configuration) → Then  -- after start_unwind the import's call is given a zero
+  test_unwound : Then  -- after get_state, called once the entry has returned
+  pause_there : Then  -- after stop_unwind the program is paused
+  call_again : Then  -- after start_rewind the entry is called again
+  test_rewound : (waits : Configuration) → Then  -- after get_state, called at the suspended import
+  give_answer : (waits : Configuration) → Then  -- after stop_rewind the answer is given
 
--- Where a run under the protocol stands: an entry is to be called, the start function is, code runs in a phase, an export is
--- to be called by the host, an export runs on a fresh stack, the entry is to be called again, or all is over.
+-- Where a run under the protocol stands: `free` to call an entry, `starting`, `busy` in a phase, `calling` an export that runs `aside`, `entering` again, or `over`.
 pub data Held : Type 0 where
   free : (store : Store) → (left : Left) → Held
   starting : (func : ℕ) → (store : Store) → (left : Left) → Held
@@ -111,13 +107,13 @@ held_on s l (e ∷ es) = free s l
 -- the start function or an entry has returned while the program runs
 abbrev pub held_back : ℕ → Task → List Value → Store → Left → Turn Held Note
 held_back k the_start results s l = goes k (done_notes s l.entries) (held_on s l l.entries)
-held_back k (an_entry e) results s l =
-    goes k (note (returned l.number (value_of_results results)) s ∷ done_notes s l.entries) (held_on s (next_entry l) l.entries)
+held_back k (an_entry e) results s l = goes k (note (returned l.number (value_of_results results)) s ∷ done_notes s l.entries) (held_on s (next_entry l) l.entries)
 
--- an answer without a pause is given at once
-abbrev pub held_given : ℕ → Note → Answer → Store → Left → Asker → Turn Held Note
-held_given k x a s l (inside task c) = goes k (x ∷ note (answered a.value) s ∷ []) (busy (is_running task) (resumed c s (option_to_list a.value)) l)
-held_given k x a s l (outermost old) = goes k (x ∷ note (answered a.value) s ∷ done_notes s l.entries) (held_on s l l.entries)
+-- what is said without a pause is told, and a value given at once
+abbrev pub held_given : ℕ → Note → Said → Store → Left → Asker → Turn Held Note
+held_given k x (S.Value v) s l (inside task c) = goes k (x ∷ note (answered (S.Value v)) s ∷ []) (busy (is_running task) (resumed c s (option_to_list v)) l)
+held_given k x (S.Value v) s l (outermost old) = goes k (x ∷ note (answered (S.Value v)) s ∷ done_notes s l.entries) (held_on s l l.entries)
+held_given k x S.Trap s l w = goes k (x ∷ import_traps s) (over s)
 
 -- a call is told, and then the end
 abbrev pub held_ends : ℕ → Note → End → Turn Held Note
@@ -132,7 +128,7 @@ held_pauses x plan k called import a l _ = stops
 -- by the first test that the answer fails, else by whether it pauses
 abbrev pub held_tested : Module → Exports → Plan → ℕ → (import : ℕ) → List Value → Asker → Left → Answer → Option End → Option ℕ → Turn Held Note
 held_tested p x plan k import args w l a (Some e) pause = held_ends k (call_note import args (store_at w) (stack_at p w) None) e
-held_tested p x plan k import args w l a None None = held_given k (call_note import args (store_at w) (stack_at p w) None) a (poked (store_at w) a.pokes) l w
+held_tested p x plan k import args w l a None None = held_given k (call_note import args (store_at w) (stack_at p w) None) a.said (poked (store_at w) a.pokes) l w
 held_tested p x plan k import args w l a None (Some ticks) = held_pauses x plan k (call_note import args (store_at w) (stack_at p w) (Some ticks)) import a l w
 
 -- a call of an import while the program runs
@@ -153,8 +149,7 @@ abbrev pub busy_step : Module → Exports → Plan → Phase → Left → Next �
 busy_step p x plan ph l (steps k d) = goes k [] (busy ph d l)
 busy_step p x plan (is_running task) l (asks k import args d) = held_asked p x plan k import args (inside task d) l l.outcomes
 busy_step p x plan (unwinds e i a) l (asks k import args d) = broken k 1 d.store
-busy_step p x plan (rewinds e i a sp) l (asks k import args d) =
-    if nat_eq import i then goes k [] (calling (rewinds e i a sp) d.store x.get_state [] (test_rewound d) l) else broken k 3 d.store
+busy_step p x plan (rewinds e i a sp) l (asks k import args d) = if nat_eq import i then goes k [] (calling (rewinds e i a sp) d.store x.get_state [] (test_rewound d) l) else broken k 3 d.store
 busy_step p x plan (is_running task) l (returns k results s) = held_back k task results s l
 busy_step p x plan (unwinds e i a) l (returns k results s) = goes k [] (calling (unwinds e i a) s x.get_state [] test_unwound l)
 busy_step p x plan (rewinds e i a sp) l (returns k results s) = broken k 5 s
@@ -171,21 +166,23 @@ abbrev pub zeros_of : Module → ℕ → List Value
 zeros_of p import = map zero_of (func_type_at p import).results
 
 -- an answer behind a pause tells the store of that pause
-abbrev pub answer_note : Option Value → Store → Store → Note
-answer_note value s at_pause = record { event = answered value; store = s; stack = []; pause = None; since = Some at_pause }
+abbrev pub answer_note : Said → Store → Store → Note
+answer_note said s at_pause = record { event = answered said; store = s; stack = []; pause = None; since = Some at_pause }
+
+-- what is said behind a pause is told, and a value given to what waits for it
+abbrev pub held_resumed : ℕ → Entry → Said → (at_pause : Store) → Configuration → Left → Store → Turn Held Note
+held_resumed k e (S.Value v) sp c l s = goes k (answer_note (S.Value v) s sp ∷ []) (busy (is_running (an_entry e)) (resumed c s (option_to_list v)) l)
+held_resumed k e S.Trap sp c l s = goes k (answer_note S.Trap s sp ∷ note (ended (Trapped Import)) s ∷ []) (over s)
 
 -- an export that the host called has returned
 abbrev pub aside_back : Module → Exports → Plan → ℕ → Phase → Then → Left → List Value → Store → Turn Held Note
 aside_back p x plan k (unwinds e i a) (give_zero c) l results s = goes k [] (busy (unwinds e i a) (resumed c s (zeros_of p i)) l)
-aside_back p x plan k (unwinds e i a) test_unwound l results s =
-    if is_state 1 results then goes k [] (calling (unwinds e i a) s x.stop_unwind [] pause_there l) else broken k 2 s
+aside_back p x plan k (unwinds e i a) test_unwound l results s = if is_state 1 results then goes k [] (calling (unwinds e i a) s x.stop_unwind [] pause_there l) else broken k 2 s
 aside_back p x plan k (unwinds e i a) pause_there l results s =
     goes k (note (paused a.ticks (used_of s plan.area)) s ∷ []) (calling (rewinds e i a s) s x.start_rewind (V.I32 plan.area.at ∷ []) call_again l)
 aside_back p x plan k (rewinds e i a sp) call_again l results s = goes k [] (entering (rewinds e i a sp) e s l)
-aside_back p x plan k (rewinds e i a sp) (test_rewound c) l results s =
-    if is_state 2 results then goes k [] (calling (rewinds e i a sp) s x.stop_rewind [] (give_answer c) l) else broken k 4 s
-aside_back p x plan k (rewinds e i a sp) (give_answer c) l results s =
-    goes k (answer_note a.value (poked s a.pokes) sp ∷ []) (busy (is_running (an_entry e)) (resumed c (poked s a.pokes) (option_to_list a.value)) l)
+aside_back p x plan k (rewinds e i a sp) (test_rewound c) l results s = if is_state 2 results then goes k [] (calling (rewinds e i a sp) s x.stop_rewind [] (give_answer c) l) else broken k 4 s
+aside_back p x plan k (rewinds e i a sp) (give_answer c) l results s = held_resumed k e a.said sp c l (poked s a.pokes)
 aside_back p x plan k ph th l results s = stops
 
 -- by the reduction of an export that runs; it may call no import

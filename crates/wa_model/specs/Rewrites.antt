@@ -1,5 +1,5 @@
--- What a rewritten module is: the original with the runtime's parts, its functions that may pause rewritten, and a behaviour
--- that is the original's.
+-- What a rewritten module is: the original with the runtime's parts, its functions that may pause rewritten, and the original's behaviour: with
+-- pauses over an area that it doesn't touch, without pauses under any.
 use Rattle.std.specs.Prelude.{◌≡◌, ℕ, ◌+◌, ◌*◌, ◌≤◌, List, length, drop, Some, Bool, slice_get}
 use Rattle.std.specs.List.{sum_by}
 use Rattle.wa_types.specs.Encoding.{merged}
@@ -14,7 +14,7 @@ use Rattle.wa_types.specs.Runtime.{with_runtime}
 use Rattle.wa_types.specs.Pausing.{Policy, save_all, save_live, Settings, MayPause, TellsMayPause, Numbered}
 use Rattle.wa_types.specs.Frames.{Count, Saved}
 use Rattle.wa_types.specs.Bounds.{Weight}
-use Rattle.wa_model.specs.Behaves.{Behaves}
+use Rattle.wa_model.specs.Behaves.{Behaves, BehavesUnpaused}
 
 -- the instructions of code, and the labels of its branch tables
 unfoldable pub instructions_and_labels : Code → ℕ
@@ -41,8 +41,8 @@ pub record RewrittenFunc (m : Module) (s : Settings) (p : Module) (which : List 
   pub nesting : depth_of g.body ≤ 3 * depth_of (pruned f.body) + 8
   pub size : instructions_and_labels g.body ≤ 128 * (Weight m f + 4) + frames_size m s.policy f (Numbered m s which f)
 
--- p is the module m rewritten under the settings s.
-pub record Rewrites (m : Module) (s : Settings) (p : Module) : Type 0 where
+-- p is the module m rewritten under the settings s, but for its runs. `Stays` relates a function that can't pause to what became of it.
+pub record RewritesButRuns (Stays : Func → Func → Type 0) (m : Module) (s : Settings) (p : Module) : Type 0 where
   pub valid : Valid m
   pub valid_rewritten : Valid p
   -- the runtime's parts stand behind the original's, which stay
@@ -59,7 +59,17 @@ pub record Rewrites (m : Module) (s : Settings) (p : Module) : Type 0 where
   pub customs : (Norm p).customs ≡ (Norm (record p { customs = m.customs })).customs
   pub runtime : drop (length m.funcs) p.funcs ≡ drop (length m.funcs) (with_runtime m).funcs
   -- functions, by their number among the defined ones
-  pub unchanged : (i : ℕ) (f g : Func) → slice_get m.funcs i ≡ Some f → slice_get p.funcs i ≡ Some g → ¬ MayPause m s (func_imports m + i) → SameFunc f g
+  pub unchanged : (i : ℕ) (f g : Func) → slice_get m.funcs i ≡ Some f → slice_get p.funcs i ≡ Some g → ¬ MayPause m s (func_imports m + i) → Stays f g
   pub rewritten : (i : ℕ) (f g : Func) (which : List Bool) → slice_get m.funcs i ≡ Some f → slice_get p.funcs i ≡ Some g → TellsMayPause m s which → MayPause m s (func_imports m + i)
       → RewrittenFunc m s p which f g
-  pub behaves : Behaves m s p
+
+-- p is the module m rewritten under the settings s: `Stays` relates a function that can't pause to what became of it, and `Runs` says what runs of p owe
+-- those of m. Where nothing pauses they are those of m, under any area.
+pub record RewritesBy (Stays : Func → Func → Type 0) (Runs : Type 0) (m : Module) (s : Settings) (p : Module) : Type 0 where
+  pub parts : RewritesButRuns Stays m s p
+  pub behaves : Runs
+  pub unpaused : BehavesUnpaused m p
+
+-- without asserts: a function that can't pause stays
+abbrev pub Rewrites : Module → Settings → Module → Type 0
+Rewrites m s p = RewritesBy SameFunc (Behaves m s p) m s p

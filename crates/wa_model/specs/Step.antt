@@ -12,20 +12,16 @@ use Rattle.wa_types.specs.Syntax.{Plain, basic, local_get, local_set, local_tee,
 use Rattle.wa_types.specs.Syntax.{branch, FuncType, Func, Module}
 use Rattle.wa_types.specs.Modules.{func_imports, all_memories, type_at, func_type_at, declared_locals, defined_at}
 use Rattle.wa_ops.specs.Operate.{value_of}
-use Rattle.wa_model.specs.Store.{Store, value_at, Did, works, fails, lacks, takes, act}
+use Rattle.wa_model.specs.Store.{Store, choose, value_at, Did, works, fails, lacks, takes, extra_cost, act}
 use Rattle.wa_model.specs.Configuration.{Label, block_label, loop_label, Activation, Configuration, running, waiting}
 
 -- What comes next (4.4). A cost k stands for suc k.
 pub data Next : Type 0 where
-  -- a reduction to this configuration
-  steps : (k : ℕ) → (to : Configuration) → Next
-  -- a call of the imported function of this index; the configuration waits for its results
-  asks : (k import : ℕ) → (args : List Value) → (waits : Configuration) → Next
-  -- the outermost activation returned
-  returns : (k : ℕ) → (values : List Value) → (store : Store) → Next
+  steps : (k : ℕ) → (to : Configuration) → Next  -- a reduction to this configuration
+  asks : (k import : ℕ) → (args : List Value) → (waits : Configuration) → Next  -- a call of the imported function of this index; the configuration waits for its results
+  returns : (k : ℕ) → (values : List Value) → (store : Store) → Next  -- the outermost activation returned
   traps : (k : ℕ) → (trap : Trap) → (store : Store) → Next
-  -- no reduction; no configuration of a valid module comes here
-  stuck : Next
+  stuck : Next  -- no reduction; no configuration of a valid module comes here
 
 -- the lowest h operands, those below a construct (4.4.5.6)
 abbrev pub keep : ℕ → List Value → List Value
@@ -53,11 +49,11 @@ finish m s fn under ls ops [] = leave 0 s ops (result_count m fn) under
 finish m s fn under ls ops (block_label h arity rest skipped ∷ labels) = steps 0 (running s fn under ls ops rest labels)
 finish m s fn under ls ops (loop_label h body rest ∷ labels) = steps 0 (running s fn under ls ops rest labels)
 
--- what an instruction did with its operands, as what comes next (4.4.1 to 4.4.4)
-abbrev pub did : ℕ → List Activation → (ls : List Value) → List Label → (rest : Code) → Store → (ops : List Value) → Did → Next
-did fn under ls labels rest s ops (works s' results) = steps 0 (running s' fn under ls (results ++ ops) rest labels)
-did fn under ls labels rest s ops (fails trap) = traps 0 trap s
-did fn under ls labels rest s ops lacks = stuck
+-- what an instruction did with its operands, as what comes next (4.4.1 to 4.4.4); a trap costs 1
+abbrev pub did : (k fn : ℕ) → List Activation → (ls : List Value) → List Label → (rest : Code) → Store → (ops : List Value) → Did → Next
+did k fn under ls labels rest s ops (works s' results) = steps k (running s' fn under ls (results ++ ops) rest labels)
+did k fn under ls labels rest s ops (fails trap) = traps 0 trap s
+did k fn under ls labels rest s ops lacks = stuck
 
 -- the topmost operand
 abbrev pub with_top : List Value → (Value → List Value → Next) → Next
@@ -69,11 +65,6 @@ abbrev pub with_number : List Value → (ℕ → List Value → Next) → Next
 with_number [] on = stuck
 with_number (V.I32 n ∷ ops) on = on n ops
 with_number (V.I64 n ∷ ops) on = stuck
-
--- the first where the number isn't 0
-abbrev pub choose : {A : Type 0} → ℕ → A → A → A
-choose zero first second = second
-choose (suc n) first second = first
 
 -- the number of a construct's results (2.4.5)
 abbrev pub arity_of : Option ValType → ℕ
@@ -88,8 +79,7 @@ zero_of t = value_of t 0
 abbrev pub entered : Store → List Activation → (args : List Value) → ℕ → Func → Configuration
 entered s under args x f = running s x under (args ++ map zero_of (declared_locals f.locals)) [] f.body []
 
--- A call of the function of this index, which takes so many arguments, below the operands that the instruction took
--- itself (4.4.7.1). One that would make activation 4,097 traps. A call of an import is no activation.
+-- A call of this function, its arguments below the instruction's own operands (4.4.7.1). Activation 4,097 traps; an import makes none.
 abbrev pub invoke : Module → Store → ℕ → List Activation → (ls own ops : List Value) → Code → List Label → (params x : ℕ) → Option Func → Next
 invoke m s fn under ls own ops rest labels params x (Some f) =
     if nat_lt (length under + 1) 4096
@@ -134,7 +124,7 @@ memory_max m = first_max (all_memories m)
 
 -- By the instruction that stands next (variable instructions, 4.4.3; control instructions, 4.4.5).
 abbrev pub step_plain : Module → Store → ℕ → List Activation → (ls ops : List Value) → List Label → (rest : Code) → Plain → Next
-step_plain m s fn under ls ops labels rest (basic b) = did fn under ls labels rest s (drop (takes b) ops) (act (memory_max m) b s (take (takes b) ops))
+step_plain m s fn under ls ops labels rest (basic b) = did (extra_cost b (take (takes b) ops)) fn under ls labels rest s (drop (takes b) ops) (act (memory_max m) b s (take (takes b) ops))
 step_plain m s fn under ls ops labels rest (local_get x) = steps 0 (running s fn under ls (value_at ls x ∷ ops) rest labels)
 step_plain m s fn under ls ops labels rest (local_set x) = with_top ops (λ v below. steps 0 (running s fn under (slice_set ls x v) below rest labels))
 step_plain m s fn under ls ops labels rest (local_tee x) = with_top ops (λ v below. steps 0 (running s fn under (slice_set ls x v) (v ∷ below) rest labels))

@@ -1,6 +1,6 @@
 -- The store of a program, and what the instructions do that touch only it and their own operands (standard,
--- sections 4.2.3 and 4.4.1 to 4.4.4).
-use Rattle.std.specs.Prelude.{ℕ, zero, suc, ◌+◌, ◌*◌, ◌^◌, List, [], ◌∷◌, length, Option, Some, None, Bool, true, false, Result, Ok, Err, if◌then◌else◌, slice_set}
+-- sections 4.2.3 and 4.4.1 to 4.4.4; copies and fills version 2.0, 4.4.7).
+use Rattle.std.specs.Prelude.{ℕ, zero, suc, ◌+◌, ◌*◌, ◌^◌, ◌%◌, List, [], ◌∷◌, length, Option, Some, None, Result, Ok, Err, if◌then◌else◌, slice_set}
 use Rattle.std.specs.List.{slice_index_or}
 use Rattle.wa_types.specs.declared.values.ValType.{ValType}
 use Rattle.wa_types.specs.declared.values.ValType.TheVariants.{I32, I64}
@@ -10,15 +10,14 @@ use Rattle.wa_types.specs.declared.values.Trap.{Trap}
 use Rattle.wa_types.specs.declared.values.Trap.TheVariants.{OutOfBounds}
 use Rattle.wa_types.specs.Operators.{operand_types}
 use Rattle.wa_types.specs.Accesses.{AccessRow, load_row, store_row}
-use Rattle.wa_types.specs.Memory.{Memory, pages_of, number_at, with_number, grown}
-use Rattle.wa_types.specs.Syntax.{Basic, nop, drop, select, const, num, global_get, global_set, load, store, memory_size, memory_grow}
+use Rattle.wa_types.specs.Memory.{Memory, pages_of, number_at, with_number, copied, filled_with, grown}
+use Rattle.wa_types.specs.Syntax.{Basic, nop, drop, select, const, num, global_get, global_set, load, store, memory_size, memory_grow, memory_copy, memory_fill}
 use Rattle.wa_ops.specs.Integers.{extend_s}
 use Rattle.wa_ops.specs.Operate.{operate, value_of, number_of}
 use Rattle.wa_types.specs.Encoding.{same_type}
 use Rattle.wa_types.specs.Typing.{type_of}
 
--- The values of the globals, the bytes of the memory, and the table: a function's index for each element that
--- is initialised (4.2.3, 4.2.7 to 4.2.9). Without a memory or a table its list is empty.
+-- The globals' values, the memory's bytes, and each table element's function, if initialised (4.2.3, 4.2.7 to 4.2.9); empty without memory or table.
 pub record Store : Type 0 where
   pub globals : List Value
   pub memory : List ℕ
@@ -51,6 +50,14 @@ takes (load op align offset) = 1
 takes (store op align offset) = 2
 takes memory_size = 0
 takes memory_grow = 1
+takes memory_copy = 3
+takes memory_fill = 3
+
+-- how much more than 1 an instruction costs with its own operands, where it works: a copy or a fill its length
+abbrev pub extra_cost : Basic → List Value → ℕ
+extra_cost memory_copy (V.I32 n ∷ ops) = n
+extra_cost memory_fill (V.I32 n ∷ ops) = n
+extra_cost _ _ = 0
 
 -- how many results it gives (4.4.1 to 4.4.4)
 abbrev pub gives : Basic → ℕ
@@ -65,6 +72,8 @@ gives (load op align offset) = 1
 gives (store op align offset) = 0
 gives memory_size = 1
 gives memory_grow = 1
+gives memory_copy = 0
+gives memory_fill = 0
 
 -- numeric instructions (4.4.1)
 abbrev pub computed : Store → Option (Result Value Trap) → Did
@@ -72,10 +81,10 @@ computed s None = lacks
 computed s (Some (Ok v)) = works s (v ∷ [])
 computed s (Some (Err t)) = fails t
 
--- select (4.4.2.2): the lower value where the number isn't 0
-abbrev pub chosen : ℕ → Value → Value → Value
-chosen zero lower upper = upper
-chosen (suc n) lower upper = lower
+-- the first where the number isn't 0 (select, 4.4.2.2)
+abbrev pub choose : {A : Type 0} → ℕ → A → A → A
+choose zero first second = second
+choose (suc n) first second = first
 
 -- the number of bytes of an access (4.4.4.1)
 abbrev pub width_of : AccessRow → ℕ
@@ -100,7 +109,7 @@ abbrev pub load_at : Store → ℕ → Option AccessRow → Did
 load_at s place None = lacks
 load_at s place (Some row) = loaded s row (number_at s.memory place (width_of row))
 
--- a store, where its bytes are all there (4.4.4.2)
+-- a store, a copy or a fill, where its bytes are all there (4.4.4.2)
 abbrev pub stored : Store → Option (List ℕ) → Did
 stored s None = fails OutOfBounds
 stored s (Some memory) = works (with_memory s memory) []
@@ -108,20 +117,18 @@ stored s (Some memory) = works (with_memory s memory) []
 -- a store of a value at a place (4.4.4.2)
 abbrev pub store_at : Store → ℕ → Value → Option AccessRow → Did
 store_at s place v None = lacks
-store_at s place v (Some row) =
-    if same_type row.ty (type_of v) then stored s (with_number s.memory place (width_of row) (number_of v)) else lacks
+store_at s place v (Some row) = if same_type row.ty (type_of v) then stored s (with_number s.memory place (width_of row) (number_of v)) else lacks
 
 -- memory.grow (4.4.4.4): the old number of pages, or -1
 abbrev pub grew : Store → Option Memory → Did
 grew s None = works s (V.I32 4294967295 ∷ [])
 grew s (Some m) = works (with_memory s m.bytes) (V.I32 (pages_of s.memory) ∷ [])
 
--- What an instruction does with exactly its operands, the topmost first, where the memory's type allows so many
--- pages at most (4.4.1 to 4.4.4).
+-- What an instruction does with exactly its operands, the topmost first, where the memory may have so many pages at most (4.4.1 to 4.4.4).
 abbrev pub act : Option ℕ → Basic → Store → List Value → Did
 act most nop s [] = works s []
 act most drop s (v ∷ []) = works s []
-act most select s (V.I32 n ∷ upper ∷ lower ∷ []) = works s (chosen n lower upper ∷ [])
+act most select s (V.I32 n ∷ upper ∷ lower ∷ []) = works s (choose n lower upper ∷ [])
 act most (const v) s [] = works s (v ∷ [])
 act most (num op) s ops = computed s (operate op ops)
 act most (global_get x) s [] = works s (value_at s.globals x ∷ [])
@@ -130,21 +137,24 @@ act most (load op align offset) s (V.I32 a ∷ []) = load_at s (a + offset) (loa
 act most (store op align offset) s (v ∷ V.I32 a ∷ []) = store_at s (a + offset) v (store_row op)
 act most memory_size s [] = works s (V.I32 (pages_of s.memory) ∷ [])
 act most memory_grow s (V.I32 n ∷ []) = grew s (grown (record { bytes = s.memory; max = most }) n)
+act most memory_copy s (V.I32 n ∷ V.I32 from ∷ V.I32 to ∷ []) = stored s (copied s.memory to from n)
+act most memory_fill s (V.I32 n ∷ V.I32 v ∷ V.I32 at ∷ []) = stored s (filled_with s.memory at (v % 256) n)
 act most _ s _ = lacks
 
--- The bytes that a load or store touches (4.4.4.1, 4.4.4.2): the first, and how many.
-pub record Access : Type 0 where
-  pub stores : Bool
+-- Bytes that an instruction reaches: the first, and how many.
+pub record Range : Type 0 where
   pub at : ℕ
-  pub width : ℕ
+  pub len : ℕ
 
--- the access of a row at a place, where the row is there
-abbrev pub access_of : Bool → ℕ → Option AccessRow → Option Access
-access_of stores at None = None
-access_of stores at (Some row) = Some (record { stores = stores; at = at; width = width_of row })
+-- the range of an access at a place, where its row is there (4.4.4.1, 4.4.4.2)
+abbrev pub range_of : ℕ → Option AccessRow → List Range
+range_of place None = []
+range_of place (Some row) = (record { at = place; len = width_of row }) ∷ []
 
--- the access that an instruction makes with its operands
-abbrev pub accessed : Basic → List Value → Option Access
-accessed (load op align offset) (V.I32 a ∷ ops) = access_of false (a + offset) (load_row op)
-accessed (store op align offset) (v ∷ V.I32 a ∷ ops) = access_of true (a + offset) (store_row op)
-accessed _ _ = None
+-- the bytes that an instruction reaches with its operands, those that it writes first
+abbrev pub reached : Basic → List Value → List Range
+reached (load op align offset) (V.I32 a ∷ ops) = range_of (a + offset) (load_row op)
+reached (store op align offset) (v ∷ V.I32 a ∷ ops) = range_of (a + offset) (store_row op)
+reached memory_copy (V.I32 n ∷ V.I32 from ∷ V.I32 to ∷ ops) = (record { at = to; len = n }) ∷ (record { at = from; len = n }) ∷ []
+reached memory_fill (V.I32 n ∷ v ∷ V.I32 at ∷ ops) = (record { at = at; len = n }) ∷ []
+reached _ _ = []

@@ -9,11 +9,18 @@ pub struct Poke {
     pub bytes: Vec<u8>,
 }
 
-/// What an import's call is answered: a value where the import has a result, pokes in order, and ticks. With
-/// ticks of 1 or more the program pauses.
+/// What an import's call is told: a value where the import has a result, or that it traps.
+#[derive(Clone, Copy)]
+pub enum Said {
+    Value(Option<Value>),
+    Trap,
+}
+
+/// What an import's call is answered: what it is told, pokes in order, and ticks. With ticks of 1 or more the
+/// program pauses.
 #[derive(Drop)]
 pub struct Answer {
-    pub value: Option<Value>,
+    pub said: Said,
     pub pokes: Vec<Poke>,
     pub ticks: u32,
 }

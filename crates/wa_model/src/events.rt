@@ -1,5 +1,6 @@
 //! What programs do that can be seen from outside: events, the ends of programs, and the lines of a world.
 
+use crate::answers::Said;
 use wa_types::{Name, Trap, Value};
 
 /// A call of a function import: the import's index among the functions, and its arguments in order.
@@ -14,10 +15,12 @@ pub struct Call {
 pub enum Event {
     /// It called an import.
     Called(Call),
-    /// The import's call was answered with this value, where the import has a result.
-    Answered(Option<Value>),
+    /// The import's call was told this.
+    Answered(Said),
     /// It paused for so many ticks, with so many bytes of its area used.
     Paused { ticks: u32, used: u32 },
+    /// It waits at a mailbox, with so many bytes of its area used.
+    Parked { used: u32 },
     /// The entry of this number, from 0, returned.
     Returned { entry: u32, value: Option<Value> },
     /// It ended.
@@ -39,7 +42,7 @@ pub struct Line {
 pub enum End {
     /// All entries have returned.
     Done,
-    /// A reduction trapped while the program ran.
+    /// A reduction, or an import, trapped while the program ran.
     Trapped(Trap),
     /// A reduction trapped while the program unwound, with so many bytes of the area used, of its length.
     UnwindTrap { trap: Trap, used: u32, len: u32 },
@@ -67,6 +70,8 @@ pub enum End {
     DeviceFault(u32),
     /// The device of this import isn't there.
     NoDevice(u32),
+    /// It waits at this import, and no program is left that could send to it.
+    Stalled(u32),
     /// The next reduction would pass the program's number of steps.
     StepsSpent(u64),
     /// The module broke this rule of the host's protocol, from 1.

@@ -165,3 +165,9 @@ extend_u i = i
 -- the same signed reading, from M bits to N (extend_s)
 abbrev pub extend_s : ℕ → ℕ → ℕ → ℕ
 extend_s M N i = unsigned N (signed M i)
+
+-- ---- sign extensions (version 2.0, 4.3.2)
+
+-- the low M bits as a signed number, at N bits (iextendM_s)
+abbrev pub iextend_s : ℕ → ℕ → ℕ → ℕ
+iextend_s M N i = extend_s M N (wrap M i)

@@ -12,17 +12,16 @@ use Rattle.wa_types.specs.declared.operators.NumOp.TheVariants.{I32Eqz, I32Eq, I
 use Rattle.wa_types.specs.declared.operators.NumOp.TheVariants.{I64GtS, I64GtU, I64LeS, I64LeU, I64GeS, I64GeU, I32Clz, I32Ctz, I32Popcnt, I32Add, I32Sub, I32Mul, I32DivS, I32DivU, I32RemS}
 use Rattle.wa_types.specs.declared.operators.NumOp.TheVariants.{I32RemU, I32And, I32Or, I32Xor, I32Shl, I32ShrS, I32ShrU, I32Rotl, I32Rotr, I64Clz, I64Ctz, I64Popcnt, I64Add, I64Sub, I64Mul}
 use Rattle.wa_types.specs.declared.operators.NumOp.TheVariants.{I64DivS, I64DivU, I64RemS, I64RemU, I64And, I64Or, I64Xor, I64Shl, I64ShrS, I64ShrU, I64Rotl, I64Rotr, I32WrapI64}
-use Rattle.wa_types.specs.declared.operators.NumOp.TheVariants.{I64ExtendI32S, I64ExtendI32U}
+use Rattle.wa_types.specs.declared.operators.NumOp.TheVariants.{I64ExtendI32S, I64ExtendI32U, I32Extend8S, I32Extend16S, I64Extend8S, I64Extend16S, I64Extend32S}
 use Rattle.wa_types.specs.Encoding.{same_type}
 use Rattle.wa_types.specs.Operators.{operand_types, result_type}
 use Rattle.wa_types.specs.Typing.{type_of}
 use Rattle.wa_ops.specs.declared.class.OperatorClass.{OperatorClass}
 use Rattle.wa_ops.specs.declared.class.OperatorClass.TheVariants.{Unary, Conversion, Comparison, Binary}
 use Rattle.wa_ops.specs.Integers.{iclz, ictz, ipopcnt, ieqz, iadd, isub, imul, idiv_u, idiv_s, irem_u, irem_s, iand, ior, ixor, ishl, ishr_u, ishr_s, irotl, irotr, ieq, ine, ilt_u, ilt_s}
-use Rattle.wa_ops.specs.Integers.{igt_u, igt_s, ile_u, ile_s, ige_u, ige_s, wrap, extend_u, extend_s}
+use Rattle.wa_ops.specs.Integers.{igt_u, igt_s, ile_u, ile_s, ige_u, ige_s, wrap, extend_u, extend_s, iextend_s}
 
--- What an operator makes of the numbers of its operands: of one (unop and testop, cvtop), or of a first and a second one
--- (relop, binop). Only a binop is partial, and it traps where it isn't defined.
+-- What an operator makes of its operands' numbers: of one (unop, testop, cvtop), or of two (relop, binop). Only a binop may trap.
 pub data Meaning : Type 0 where
   unary : (of_one : ℕ → ℕ) → Meaning
   conversion : (of_one : ℕ → ℕ) → Meaning
@@ -96,6 +95,11 @@ meaning_of I64Rotr = always (irotr 64)
 meaning_of I32WrapI64 = conversion (wrap 32)
 meaning_of I64ExtendI32S = conversion (extend_s 32 64)
 meaning_of I64ExtendI32U = conversion extend_u
+meaning_of I32Extend8S = unary (iextend_s 8 32)
+meaning_of I32Extend16S = unary (iextend_s 16 32)
+meaning_of I64Extend8S = unary (iextend_s 8 64)
+meaning_of I64Extend16S = unary (iextend_s 16 64)
+meaning_of I64Extend32S = unary (iextend_s 32 64)
 
 -- which of the four calls takes an operator of a meaning (2.4.1)
 abbrev pub class_in : Meaning → OperatorClass

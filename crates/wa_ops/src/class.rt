@@ -10,7 +10,7 @@ use wa_types::{NumOp, ValType};
 /// Which of this crate's calls takes an operator (standard, section 2.4.1).
 #[derive(Clone, Copy)]
 pub enum OperatorClass {
-    /// `unary`: counts of bits, and the test for zero.
+    /// `unary`: counts of bits, the test for zero, and sign extensions.
     Unary,
     /// `convert`: a result of another type than the operand's.
     Conversion,
@@ -30,6 +30,11 @@ impl OperatorClass {
                 OperatorClass::Unary,
             NumOp::I64Eqz | NumOp::I64Clz | NumOp::I64Ctz | NumOp::I64Popcnt =>
                 OperatorClass::Unary,
+            NumOp::I32Extend8S
+            | NumOp::I32Extend16S
+            | NumOp::I64Extend8S
+            | NumOp::I64Extend16S
+            | NumOp::I64Extend32S => OperatorClass::Unary,
             NumOp::I32WrapI64 | NumOp::I64ExtendI32S | NumOp::I64ExtendI32U => {
                 OperatorClass::Conversion
             }
@@ -96,6 +101,7 @@ pub fn operand_type(op: NumOp) -> ValType
         | NumOp::I64Rotl
         | NumOp::I64Rotr
         | NumOp::I32WrapI64 => ValType::I64,
+        NumOp::I64Extend8S | NumOp::I64Extend16S | NumOp::I64Extend32S => ValType::I64,
         _ => ValType::I32,
     }
 }

@@ -58,6 +58,10 @@ bytes_at-overwritten bytes at piece h =
     ∙ ap (take (length piece)) (drop_at (take at bytes) (piece ++ behind) at (length-take-le at bytes (omega arith)))
     ∙ take_at piece behind (length piece) refl
 
+-- so many bytes stand at an address inside
+pub length-bytes_at : (bytes : List ℕ) (at width : ℕ) → at + width ≤ length bytes → length (bytes_at bytes at width) ≡ width
+length-bytes_at bytes at width h = length-take-le width (drop at bytes) (omega (arith, length-drop at bytes))
+
 -- more bytes at the end, as growth puts them there, leave those that were there
 pub bytes_at-append : (bytes more : List ℕ) (a width : ℕ) → a + width ≤ length bytes
     → bytes_at (bytes ++ more) a width ≡ bytes_at bytes a width

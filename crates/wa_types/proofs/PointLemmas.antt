@@ -4,7 +4,7 @@ use Rattle.std.proofs.Math.Seq.{drop-append_seam}
 use Rattle.wa_types.specs.declared.values.ValType.{ValType}
 use Rattle.wa_types.specs.declared.values.ValType.TheVariants.{I32}
 use Rattle.wa_types.specs.Accesses.{AccessRow, load_row, store_row}
-use Rattle.wa_types.specs.Syntax.{Basic, nop, drop as drop_operand, select, const, num, global_get, global_set, load, store, memory_size, memory_grow, Plain, basic, local_get, local_set}
+use Rattle.wa_types.specs.Syntax.{Basic, nop, drop as drop_operand, select, const, num, global_get, global_set, load, store, memory_size, memory_grow, memory_copy, memory_fill, Plain, basic, local_get, local_set}
 use Rattle.wa_types.specs.Syntax.{local_tee, br, br_if, br_table, return, unreachable, call, call_indirect, Code, done, plain, nest, branch, FuncType}
 use Rattle.wa_types.specs.Pruned.{is_last}
 use Rattle.wa_types.specs.declared.rules.Rule.TheVariants.{Alignment, ConstantGlobal}
@@ -110,6 +110,8 @@ passes_basic c (load op align offset) = passes_loads c.memory align (load_row op
 passes_basic c (store op align offset) = passes_stores c.memory align (store_row op)
 passes_basic c memory_size = passes_with_memory c.memory [] (I32 ∷ [])
 passes_basic c memory_grow = passes_with_memory c.memory (I32 ∷ []) (I32 ∷ [])
+passes_basic c memory_copy = passes_with_memory c.memory (I32 ∷ I32 ∷ I32 ∷ []) []
+passes_basic c memory_fill = passes_with_memory c.memory (I32 ∷ I32 ∷ I32 ∷ []) []
 
 pub passes : (c : Around) (ls : List (Option ValType)) (p : Plain) → is_last p ≡ false → Passes (sig c ls p)
 passes c ls (basic b) e = passes_basic c b

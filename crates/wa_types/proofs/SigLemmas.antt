@@ -3,7 +3,7 @@ use Rattle.std.proofs.Common.{arith, ◌≡◌, ℕ, ◌<◌, ◌≤◌, nat_le,
 use Rattle.wa_types.specs.declared.values.ValType.{ValType}
 use Rattle.wa_types.specs.declared.values.ValType.TheVariants.{I32}
 use Rattle.wa_types.specs.Accesses.{AccessRow, load_row, store_row}
-use Rattle.wa_types.specs.Syntax.{Basic, nop, drop, select, const, num, global_get, global_set, load, store, memory_size, memory_grow, Plain, basic, local_get, local_set, local_tee, br}
+use Rattle.wa_types.specs.Syntax.{Basic, nop, drop, select, const, num, global_get, global_set, load, store, memory_size, memory_grow, memory_copy, memory_fill, Plain, basic, local_get, local_set, local_tee, br}
 use Rattle.wa_types.specs.Syntax.{br_if, br_table, return, unreachable, call, call_indirect, FuncType}
 use Rattle.wa_types.specs.Pruned.{is_last}
 use Rattle.wa_types.specs.Rules.{number, above_all}
@@ -101,6 +101,8 @@ lawful_basic c (load op align offset) = lawful_loads c.memory align (load_row op
 lawful_basic c (store op align offset) = lawful_stores c.memory align (store_row op)
 lawful_basic c memory_size = lawful_with_memory c.memory [] (I32 ∷ [])
 lawful_basic c memory_grow = lawful_with_memory c.memory (I32 ∷ []) (I32 ∷ [])
+lawful_basic c memory_copy = lawful_with_memory c.memory (I32 ∷ I32 ∷ I32 ∷ []) []
+lawful_basic c memory_fill = lawful_with_memory c.memory (I32 ∷ I32 ∷ I32 ∷ []) []
 
 pub lawful : (c : Around) (ls : List (Option ValType)) (p : Plain) → Lawful (sig c ls p)
 lawful c ls (basic b) = lawful_basic c b

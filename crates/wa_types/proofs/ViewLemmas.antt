@@ -6,10 +6,10 @@ use Rattle.std.specs.declared.alloc.Global.{Global}
 use Rattle.wa_types.specs.declared.values.ValType.{ValType}
 use Rattle.wa_types.specs.declared.instrs.Instr.{Instr, Row_of-Instr, end_of-Instr, more_of-Instr, items-the_row-Instr, items_hidden-the_row-Instr-0, roll-Instr, roll-out-Instr}
 use Rattle.wa_types.specs.declared.instrs.Instr.TheBlock.{hidden-the_row-Instr-0}
-use Rattle.wa_types.specs.declared.instrs.Instr.TheVariants.{Unreachable, Nop, Drop, Select, Return, MemorySize, MemoryGrow, Const, Num, Br, BrIf, BrTable, Call, CallIndirect, LocalGet}
+use Rattle.wa_types.specs.declared.instrs.Instr.TheVariants.{Unreachable, Nop, Drop, Select, Return, MemorySize, MemoryGrow, MemoryCopy, MemoryFill, Const, Num, Br, BrIf, BrTable, Call, CallIndirect, LocalGet}
 use Rattle.wa_types.specs.declared.instrs.Instr.TheVariants.{LocalSet, LocalTee, GlobalGet, GlobalSet, Load, Store, Block, Loop, If, Block', Loop', If', rolls-Block, rolls-Loop, rolls-If}
 use Rattle.wa_types.specs.declared.instrs.Instr.TheVariants.{outs-Block', outs-Loop', outs-If'}
-use Rattle.wa_types.specs.Syntax.{nop, drop as drop_operand, select, const, num, global_get, global_set, load, store, memory_size, memory_grow, Plain, basic, local_get, local_set, local_tee}
+use Rattle.wa_types.specs.Syntax.{nop, drop as drop_operand, select, const, num, global_get, global_set, load, store, memory_size, memory_grow, memory_copy, memory_fill, Plain, basic, local_get, local_set, local_tee}
 use Rattle.wa_types.specs.Syntax.{br, br_if, br_table, return, unreachable, call, call_indirect, a_block, a_loop, Code, done, plain, nest, branch}
 use Rattle.wa_types.specs.View.{in_front, row_code, onto, code}
 
@@ -55,6 +55,8 @@ instr_kind Select = is_plain (basic select) (λ rest. refl)
 instr_kind Return = is_plain return (λ rest. refl)
 instr_kind MemorySize = is_plain (basic memory_size) (λ rest. refl)
 instr_kind MemoryGrow = is_plain (basic memory_grow) (λ rest. refl)
+instr_kind MemoryCopy = is_plain (basic memory_copy) (λ rest. refl)
+instr_kind MemoryFill = is_plain (basic memory_fill) (λ rest. refl)
 instr_kind (Const v) = is_plain (basic (const v)) (λ rest. refl)
 instr_kind (Num op) = is_plain (basic (num op)) (λ rest. refl)
 instr_kind (Br l) = is_plain (br l) (λ rest. refl)

@@ -4,8 +4,7 @@ use Rattle.std.specs.List.{find}
 use Rattle.wa_types.specs.declared.values.ValType.{ValType}
 use Rattle.wa_types.specs.declared.values.ValType.TheVariants.{I32, I64}
 
--- A row of the table (2.4.4): the opcode, the type of the value, the natural alignment as an exponent of 2, which
--- is also that of the number of bytes, and whether a load extends their sign.
+-- A row of the table (2.4.4): opcode, type, natural alignment as an exponent of 2, which also gives the bytes, and whether a load extends a sign.
 pub record AccessRow : Type 0 where
   pub opcode : ℕ
   pub ty : ValType

@@ -1,12 +1,12 @@
 -- Which bytes begin a file: items in an order that the grammar allows, and a part of one more (standard,
 -- section 5). The grammar is a stack of goals, which say what may come next; an item takes the first goal away
 -- and puts in its place what has to follow.
-use Rattle.std.specs.Prelude.{◌≡◌, ℕ, ◌+◌, ◌-◌, ◌<◌, ◌≤◌, ◌⊎◌, ◌==◌, ◌&&◌, ◌||◌, nat_le, nat_lt, List, [], ◌∷◌, ◌++◌, map, length, take, Option, Some, None, Err, Bool, true, false, not}
-use Rattle.std.specs.Prelude.{if◌then◌else◌, IsUtf8}
-use Rattle.wa_types.specs.LebFault.TheVariants.{Short}
+use Rattle.std.specs.Prelude.{◌≡◌, ℕ, ◌+◌, ◌-◌, ◌<◌, ◌≤◌, ◌⊎◌, ◌==◌, ◌&&◌, ◌||◌, nat_le, nat_lt, List, [], ◌∷◌, ◌++◌, map, length, take, Option, Some, None, Err, Bool, true, false, not, if◌then◌else◌, IsUtf8}
+use Rattle.std.specs.Option.{option_map}
+use Rattle.leb_numbers.specs.declared.leb.LebFault.TheVariants.{Short}
 use Rattle.leb_numbers.specs.Leb.{IsUnsigned, IsSigned, unsigned_at, signed_at}
 use Rattle.wa_types.specs.Encoding.{preamble}
-use Rattle.wa_types.specs.Opcodes.{Form, no_immediate, a_zero, an_index, an_index_and_zero, an_access, some_labels, a_constant, a_float, follows, is_value_type, is_block_type, is_nest}
+use Rattle.wa_types.specs.Opcodes.{Form, no_immediate, a_zero, an_index, an_index_and_zero, an_access, some_labels, a_bulk, a_constant, a_float, follows, zeros_of, is_value_type, is_block_type, is_nest}
 
 -- What a vector counts.
 pub data EntryKind : Type 0 where
@@ -25,6 +25,7 @@ pub data Goal : Type 0 where
   count : EntryKind → Goal  -- a number of entries, and the entries
   number name value_type block_type mutable import_kind space limits : Goal
   signed : (bits : ℕ) → Goal  -- a signed number
+  bulk_number : Goal  -- the number of a copy or fill of memory, and its zero bytes
   name_bytes float_bytes : (n : ℕ) → Goal  -- the bytes of a name, or of a float
   code : (first_arm : Bool) → Goal  -- instructions up to their end
 
@@ -60,6 +61,7 @@ wants (entries k n) = first_of k
 wants (count k) = an_unsigned
 wants number = an_unsigned
 wants name = an_unsigned
+wants bulk_number = an_unsigned
 wants (signed bits) = a_signed bits
 wants (name_bytes n) = a_name n
 wants (float_bytes n) = a_constant_of n
@@ -168,6 +170,7 @@ immediates an_access = number ∷ number ∷ []
 immediates some_labels = count some_indices ∷ number ∷ []
 immediates (a_constant bits) = signed bits ∷ []
 immediates (a_float n) = float_bytes n ∷ []
+immediates a_bulk = bulk_number ∷ []
 
 -- the goals of what follows an opcode, where it is one, and more behind (5.4)
 abbrev pub immediates_of : Option Form → List Goal → Option (List Goal)
@@ -202,6 +205,7 @@ next import_kind v at = behind_kind v
 next space v at = where_true (nat_le v 0x03) []
 next limits v at = behind_flag v
 next (signed bits) v at = Some []
+next bulk_number v at = option_map (map exact) (zeros_of v)
 next (name_bytes n) v at = Some []
 next (float_bytes n) v at = Some []
 next (code first_arm) v at = behind_opcode first_arm v

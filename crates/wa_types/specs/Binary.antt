@@ -17,9 +17,9 @@ pub data Immediates : Type 0 where
   labels : (targets : List ℕ) → (last : ℕ) → Immediates
   constant : (bits n : ℕ) → Immediates
   float : (bytes : List ℕ) → Immediates
+  bulk : (n : ℕ) → Immediates  -- the number of a copy or fill of memory, and its zero bytes
 
--- Instructions up to their end, each before the rest of its sequence (5.4.1, 5.4.6). The arms of an if are one
--- sequence: its first arm ends, or goes over into the other by an else.
+-- Instructions up to their end, each before the rest (5.4.1, 5.4.6). An if's arms are one sequence: the first ends, or an else leads on.
 pub data RawCode : Type 0 where
   ended : (place : ℕ) → RawCode
   otherwise : (place : ℕ) → (arm : RawCode) → RawCode

@@ -20,8 +20,7 @@ code_weight m (plain p rest) = plain_weight m p + code_weight m rest
 code_weight m (nest s r body rest) = 1 + code_weight m body + code_weight m rest
 code_weight m (branch r a b rest) = 1 + code_weight m a + code_weight m b + code_weight m rest
 
--- The weight of a function: the instructions, labels of `br_table` and call parameters of its pruned body, and
--- its parameters and locals.
+-- The weight of a function: instructions, labels of `br_table` and call parameters of its pruned body, and its parameters and locals.
 abbrev pub Weight : Module → Func → ℕ
 Weight m f = code_weight m (pruned f.body) + length (locals_of m f)
 
@@ -34,7 +33,6 @@ weight_of_found m (Some f) = Weight m f
 abbrev pub activation_bound : Module → Suspended → ℕ
 activation_bound m a = 128 * (weight_of_found m (defined_at m a.func) + 4)
 
--- The bound on the cost of the rewritten program, for a run of the original of cost n whose pauses suspend
--- these stacks.
+-- The bound on the cost of the rewritten program, for a run of the original of cost n whose pauses suspend these stacks.
 abbrev pub Bound : Module → ℕ → List (List Suspended) → ℕ
 Bound m n pauses = 256 * (n + 1) + sum_by (λ stack. 256 + sum_by (activation_bound m) stack) pauses

@@ -1,6 +1,6 @@
 -- The bytes that a module is written as: every number in its shortest spelling, known sections in rising id,
 -- sections with no entries left out (standard, section 5).
-use Rattle.std.specs.Prelude.{ℕ, ◌+◌, suc, List, [], ◌∷◌, ◌++◌, length, filter, min, Option, Some, None, Bool, true, false, if◌then◌else◌}
+use Rattle.std.specs.Prelude.{ℕ, ◌+◌, suc, List, [], ◌∷◌, ◌++◌, length, filter, min, Option, Some, None, unwrap_or, Bool, true, false, if◌then◌else◌}
 use Rattle.std.specs.List.{flat_map}
 use Rattle.std.specs.Prelude.{◌==◌}
 use Rattle.wa_types.specs.declared.values.ValType.{ValType}
@@ -15,20 +15,16 @@ use Rattle.wa_types.specs.declared.syntax.Space.TheVariants.{Func as a_func, Tab
 use Rattle.wa_types.specs.declared.syntax.Export.{Export}
 use Rattle.leb_numbers.specs.Leb.{shortest, shortest_signed}
 use Rattle.wa_types.specs.Syntax.{Plain, Shape, a_block, a_loop, Code, done, plain, nest, branch, FuncType, Func, GlobalDef, Elem, Segment, Custom, Module}
-use Rattle.wa_types.specs.Binary.{Immediates, nothing, zero_byte, index, index_and_zero, access, labels, constant, float}
-use Rattle.wa_types.specs.Opcodes.{plain_opcode, plain_immediates}
+use Rattle.wa_types.specs.Binary.{Immediates, nothing, zero_byte, index, index_and_zero, access, labels, constant, float, bulk}
+use Rattle.wa_types.specs.Opcodes.{plain_opcode, plain_immediates, zeros_of}
 
 -- a list of items, with their number (5.1.3)
 abbrev pub vector : {X : Type 0} → (X → List ℕ) → List X → List ℕ
 vector item xs = shortest (length xs) ++ flat_map item xs
 
--- bytes behind their number (5.5.2)
+-- bytes behind their number, as a name has them too (5.2.4, 5.5.2)
 abbrev pub sized : List ℕ → List ℕ
 sized bytes = shortest (length bytes) ++ bytes
-
--- a name (5.2.4)
-abbrev pub name_bytes : List ℕ → List ℕ
-name_bytes name = sized name
 
 -- a value type (5.3.1)
 abbrev pub type_byte : ValType → ℕ
@@ -76,6 +72,7 @@ immediate_bytes (access align offset) = shortest align ++ shortest offset
 immediate_bytes (labels targets last) = vector shortest targets ++ shortest last
 immediate_bytes (constant bits n) = shortest_signed bits n
 immediate_bytes (float bytes) = bytes
+immediate_bytes (bulk n) = shortest n ++ unwrap_or (zeros_of n) []
 
 -- an instruction that holds no other (5.4.1 to 5.4.5)
 abbrev pub plain_bytes : Plain → List ℕ
@@ -111,8 +108,7 @@ same_type _ _ = false
 -- a run in front of merged runs
 abbrev pub run_onto : Run → List Run → List Run
 run_onto r [] = r ∷ []
-run_onto r (s ∷ rest) =
-    if same_type r.ty s.ty then (record { count = r.count + s.count; ty = r.ty }) ∷ rest else r ∷ s ∷ rest
+run_onto r (s ∷ rest) = if same_type r.ty s.ty then (record { count = r.count + s.count; ty = r.ty }) ∷ rest else r ∷ s ∷ rest
 
 -- the runs with adjacent ones of a type merged, and empty ones left out
 abbrev pub merged : List Run → List Run
@@ -136,7 +132,7 @@ import_kind_bytes (a_global_import t mutable) = 0x03 ∷ global_type_bytes t mut
 
 -- an import (5.5.5)
 abbrev pub import_bytes : Import → List ℕ
-import_bytes i = name_bytes i.module ++ name_bytes i.base ++ import_kind_bytes i.kind
+import_bytes i = sized i.module ++ sized i.base ++ import_kind_bytes i.kind
 
 -- a defined global (5.5.9)
 abbrev pub global_bytes : GlobalDef → List ℕ
@@ -151,7 +147,7 @@ space_byte a_global = 0x03
 
 -- an export (5.5.10)
 abbrev pub export_bytes : Export → List ℕ
-export_bytes e = name_bytes e.name ++ space_byte e.space ∷ shortest e.index
+export_bytes e = sized e.name ++ space_byte e.space ∷ shortest e.index
 
 -- an element segment (5.5.12)
 abbrev pub elem_bytes : Elem → List ℕ
@@ -173,7 +169,7 @@ start_section (Some x) = 0x08 ∷ sized (shortest x)
 
 -- a custom section (5.5.3)
 abbrev pub custom_bytes : Custom → List ℕ
-custom_bytes c = 0x00 ∷ sized (name_bytes c.name ++ c.bytes)
+custom_bytes c = 0x00 ∷ sized (sized c.name ++ c.bytes)
 
 -- the custom sections whose place is behind the sections of ids up to this one (5.5.3); 11 is the last
 abbrev pub customs_behind : ℕ → List Custom → List ℕ

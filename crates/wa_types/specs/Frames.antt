@@ -78,8 +78,7 @@ same_pair n t p = nat_eq n p.number && same_type t p.ty
 abbrev pub ResultPairs : Module → Func → List Pair
 ResultPairs m f = pairs_from (λ d t. list_any (same_pair d t) (all_results m f)) 0 (suc (depth_of (pruned f.body)))
 
--- The parameters and locals of the rewritten function: those of the flat function, the call index and a
--- scratch local of each type.
+-- The parameters and locals of the rewritten function: those of the flat function, the call index and a scratch local of each type.
 abbrev pub Count : Module → Func → ℕ
 Count m f = length (locals_of m f) + length (SlotPairs m f) + length (ResultPairs m f) + 3
 
@@ -105,17 +104,15 @@ slot_places keep x (p ∷ ps) = place_onto (keep p) x p.ty (slot_places keep (su
 
 -- the parameters, declared locals and slots that are kept
 abbrev pub places : Module → Func → (ℕ → Bool) → (Pair → Bool) → List Place
-places m f keep keep_slot =
-    named_places keep 0 (locals_of m f) ++ slot_places keep_slot (length (locals_of m f)) (SlotPairs m f)
+places m f keep keep_slot = named_places keep 0 (locals_of m f) ++ slot_places keep_slot (length (locals_of m f)) (SlotPairs m f)
 
 -- an operand of this pair stands on the stack that is told
 abbrev pub is_on_stack : Option (List ValType) → Pair → Bool
 is_on_stack None p = false
 is_on_stack (Some ops) p = stands_at p.number p.ty ops
 
--- The locals that the frame of the call at this place saves, by index. Policy `all`: the parameters, the
--- declared locals and every slot. Policy `live`: each parameter or declared local that some path from just
--- after the call reads before writing it, and each slot of an operand on the stack just before the call.
+-- The locals that the frame of the call at this place saves, by index. Policy `all`: parameters, declared locals and slots. Policy `live`: each
+-- parameter or declared local that a path from just after the call reads before it writes it, and each slot of an operand on the stack there.
 abbrev pub Saved : Module → Policy → Func → ℕ → List Place
 Saved m save_all f place = places m f (λ x. true) (λ p. true)
 Saved m save_live f place = places m f (is_live_after f place) (is_on_stack (slice_get (func_call_points m f) place))
@@ -129,8 +126,7 @@ width I64 = 8
 abbrev pub FrameSize : Module → Policy → Func → ℕ → ℕ
 FrameSize m policy f place = 4 + sum_by (λ (p : Place). width p.ty) (Saved m policy f place)
 
--- A suspended activation: its function, the place of the call where it stands, and its locals and operands
--- just before that call, the topmost first.
+-- A suspended activation: its function, the place of its call, and its locals and operands just before that call, the topmost first.
 pub record Suspended : Type 0 where
   pub func : ℕ
   pub place : ℕ
@@ -153,11 +149,9 @@ Room m policy stack = 8 + sum_by (frame_of m policy) stack
 -- the bytes in use with the frames of a stack, the innermost first, until the first that would pass the length
 abbrev pub fit_from : Module → Policy → ℕ → ℕ → List Suspended → ℕ
 fit_from m policy len used [] = used
-fit_from m policy len used (a ∷ rest) =
-    if nat_lt len (used + frame_of m policy a) then used else fit_from m policy len (used + frame_of m policy a) rest
+fit_from m policy len used (a ∷ rest) = if nat_lt len (used + frame_of m policy a) then used else fit_from m policy len (used + frame_of m policy a) rest
 
--- The bytes of an area of this length that are in use when an unwind of this stack ends in it, the innermost
--- activation first.
+-- The bytes of an area of this length that are in use when an unwind of this stack ends in it, the innermost activation first.
 abbrev pub Fit : Module → Policy → List Suspended → ℕ → ℕ
 Fit m policy stack len = fit_from m policy len 8 stack
 
@@ -184,8 +178,7 @@ abbrev pub operand_at : List Value → Option Pair → Option Value
 operand_at operands None = None
 operand_at operands (Some p) = of_type p.ty (slice_get (reverse operands) p.number)
 
--- what a saved local has to hold: a parameter or declared local its value, a slot the operand that stands
--- there; any other slot may hold any value
+-- what a saved local has to hold: a parameter or declared local its value, a slot the operand there; any other slot may hold any value
 abbrev pub wanted : Module → Func → Suspended → Place → Option Value
 wanted m f a p =
     let n = length (locals_of m f) in
@@ -220,12 +213,10 @@ HoldsFrame m s which memory at a (Some f) =
 -- the frames of a stack stand in a row, the innermost first
 abbrev pub HoldsFrames : Module → Settings → List Bool → List ℕ → ℕ → List Suspended → Type 0
 HoldsFrames m s which memory at [] = Unit {0}
-HoldsFrames m s which memory at (a ∷ rest) =
-    HoldsFrame m s which memory at a (defined_at m a.func) × HoldsFrames m s which memory (at + frame_of m s.policy a) rest
+HoldsFrames m s which memory at (a ∷ rest) = HoldsFrame m s which memory at a (defined_at m a.func) × HoldsFrames m s which memory (at + frame_of m s.policy a) rest
 
--- What memory holds of a suspended stack, the innermost activation first, in an area of so many bytes at this
--- address: the location and the end, and behind them each frame, its saved locals in order and then the
--- number of its call.
+-- What memory holds of a suspended stack, the innermost activation first, in an area of so many bytes at this address: the location and the
+-- end, and behind them each frame, its saved locals in order and then the number of its call.
 pub record Image (m : Module) (s : Settings) (which : List Bool) (stack : List Suspended) (at len : ℕ) (memory : List ℕ) : Type 0 where
   pub location : HoldsBytes memory at (word (at + Room m s.policy stack))
   pub limit : HoldsBytes memory (at + 4) (word (at + len))

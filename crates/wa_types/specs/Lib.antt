@@ -1,5 +1,4 @@
-pub use Rattle.leb_numbers.specs.Leb
-pub use Rattle.leb_numbers.specs.declared.leb.LebFault
+-- no definitions of its own
 pub mod Accesses
 pub mod Base
 pub mod Begun
@@ -9,9 +8,9 @@ pub mod Counts
 pub mod Dropping
 pub mod Encoding
 pub mod FirstFault
-pub mod FrameLaws
 pub mod Frames
 pub mod Leaves
+pub mod Levels
 pub mod Liveness
 pub mod Marks
 pub mod Memory
@@ -26,6 +25,7 @@ pub mod Pruned
 pub mod Reading
 pub mod Rules
 pub mod Runtime
+pub mod SavedLocals
 pub mod Sizes
 pub mod Spells
 pub mod Syntax

@@ -10,8 +10,7 @@ pub data Label : Type 0 where
   goes_behind : (rest : Code) → Label
   goes_again : (body rest : Code) → Label
 
--- A place in a function's code: what stands from there on in its sequence, and the labels around it, the
--- innermost first, without the function's own.
+-- A place in code: what stands from there on in its sequence, and the labels around it, the innermost first, without the function's own.
 pub record Position : Type 0 where
   pub here : Code
   pub labels : List Label
@@ -95,17 +94,15 @@ unfoldable pub behind_calls : List Label → Code → List Position
 behind_calls ls done = []
 behind_calls ls (plain p rest) = if_call_here (callee p) (position rest ls) (behind_calls ls rest)
 behind_calls ls (nest s r body rest) = behind_calls (label_of s body rest ∷ ls) body ++ behind_calls ls rest
-behind_calls ls (branch r a b rest) =
-    behind_calls (goes_behind rest ∷ ls) a ++ (behind_calls (goes_behind rest ∷ ls) b ++ behind_calls ls rest)
+behind_calls ls (branch r a b rest) = behind_calls (goes_behind rest ∷ ls) a ++ (behind_calls (goes_behind rest ∷ ls) b ++ behind_calls ls rest)
 
 -- The parameter or declared local x is read before it is written on some path of the function's pruned body
 -- from just after the call at this place.
 abbrev pub LiveAfter : Func → ℕ → ℕ → Type 0
 LiveAfter f place x = (at : Position) × (slice_get (behind_calls [] (pruned f.body)) place ≡ Some at) × ReadsFirst x at
 
--- Whether x is read before it is written, computed from the end backwards: `tos` tells it for the target of
--- each label, `out` for what stands behind the sequence. A path that comes to a loop's start again reads x no
--- sooner than one that begins there, so a loop's own label counts as one where x isn't read.
+-- Whether x is read before it is written, computed backwards: `tos` tells it for each label's target, `out` for what stands behind. A path
+-- that comes to a loop's start again reads x no sooner than one that begins there, so a loop's own label counts as one where x isn't read.
 abbrev pub told_at : List Bool → ℕ → Bool
 told_at tos l = is_told (slice_get tos l)
 
@@ -141,8 +138,7 @@ pub record Told : Type 0 where
 -- what is told under one label more
 abbrev pub label_told : ℕ → Label → Told → Told
 label_told x (goes_behind rest) t = let k = live x t.tos t.out rest in record { tos = k ∷ t.tos; out = k }
-label_told x (goes_again body rest) t =
-    let k = live x t.tos t.out rest in record { tos = live x (false ∷ t.tos) k body ∷ t.tos; out = k }
+label_told x (goes_again body rest) t = let k = live x t.tos t.out rest in record { tos = live x (false ∷ t.tos) k body ∷ t.tos; out = k }
 
 -- what is told under labels, the innermost first
 abbrev pub told : ℕ → List Label → Told

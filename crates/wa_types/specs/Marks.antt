@@ -55,10 +55,8 @@ abbrev pub code_opens : (bound level : ℕ) → RawCode → List ℕ
 code_opens bound level (ended k) = []
 code_opens bound level (otherwise k arm) = code_opens bound level arm
 code_opens bound level (instr op operands rest) = code_opens bound level rest
-code_opens bound level (nested op result body rest) =
-    place_if (nat_le bound level) op.place ++ code_opens bound (level + 1) body ++ code_opens bound level rest
-code_opens bound level (branched op result arms rest) =
-    place_if (nat_le bound level) op.place ++ code_opens bound (level + 1) arms ++ code_opens bound level rest
+code_opens bound level (nested op result body rest) = place_if (nat_le bound level) op.place ++ code_opens bound (level + 1) body ++ code_opens bound level rest
+code_opens bound level (branched op result arms rest) = place_if (nat_le bound level) op.place ++ code_opens bound (level + 1) arms ++ code_opens bound level rest
 
 -- the same in a section
 abbrev pub section_opens : (bound : ℕ) → Section → List ℕ

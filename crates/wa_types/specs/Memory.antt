@@ -1,4 +1,4 @@
--- Memories as lists of bytes, and what loads, stores and growth do to them (standard, sections 4.2.8 and 4.4.4).
+-- Memories as lists of bytes, and what loads, stores, copies, fills and growth do to them (standard, sections 4.2.8 and 4.4.4).
 use Rattle.std.specs.Prelude.{◌≡◌, ◌≤◌, ℕ, ◌+◌, ◌*◌, ◌/◌, ◌%◌, min, nat_le, if◌then◌else◌, List, [], ◌∷◌, ◌++◌, length, take, drop, replicate, Option, Some, None}
 use Rattle.std.specs.Int.{bytes_low_first}
 
@@ -39,8 +39,7 @@ bytes_at bytes at width = take width (drop at bytes)
 
 -- the number that the bytes at an address spell (4.4.4.1)
 abbrev pub number_at : List ℕ → ℕ → ℕ → Option ℕ
-number_at bytes at width =
-    if nat_le (at + width) (length bytes) then Some (number_of_bytes (bytes_at bytes at width)) else None
+number_at bytes at width = if nat_le (at + width) (length bytes) then Some (number_of_bytes (bytes_at bytes at width)) else None
 
 -- the bytes with a piece written over those at an address
 abbrev pub overwritten : List ℕ → ℕ → List ℕ → List ℕ
@@ -53,6 +52,16 @@ with_piece bytes at piece = if nat_le (at + length piece) (length bytes) then So
 -- the bytes after a store of the low bytes of a number (4.4.4.2)
 abbrev pub with_number : List ℕ → ℕ → ℕ → ℕ → Option (List ℕ)
 with_number bytes at width n = with_piece bytes at (bytes_of width n)
+
+-- ---- copies and fills (version 2.0, 4.4.7), taken without wrapping; None past the end
+
+-- the bytes after a copy of one range over another of that length, as it stood before; both lie inside (memory.copy)
+abbrev pub copied : List ℕ → (to from len : ℕ) → Option (List ℕ)
+copied bytes to from len = if nat_le (from + len) (length bytes) then with_piece bytes to (bytes_at bytes from len) else None
+
+-- the bytes after one byte is written all over a range (memory.fill)
+abbrev pub filled_with : List ℕ → (at byte len : ℕ) → Option (List ℕ)
+filled_with bytes at byte len = with_piece bytes at (replicate len byte)
 
 -- ---- growth (4.4.4.4 memory.grow), within the type's greatest number of pages and 1,024
 

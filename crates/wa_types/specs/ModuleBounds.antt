@@ -2,8 +2,7 @@
 -- runtime's parts.
 use Rattle.std.specs.Prelude.{ℕ}
 
--- The most bytes of a file, functions with the imported ones, parameters of a type, bytes of a body, levels of
--- nested constructs, and parameters and locals of a function.
+-- The most bytes of a file, functions with imported ones, parameters, bytes of a body, nested constructs, and parameters and locals of a function.
 pub record ModuleBounds : Type 0 where
   pub file : ℕ
   pub functions : ℕ

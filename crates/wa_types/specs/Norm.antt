@@ -1,5 +1,5 @@
 -- A module as its shortest spelling keeps it.
-use Rattle.std.specs.Prelude.{ℕ, suc, List, [], ◌∷◌, ◌++◌, map, filter, min, Option, Some, None, Bool, true, false, ◌==◌, if◌then◌else◌}
+use Rattle.std.specs.Prelude.{ℕ, suc, List, [], ◌∷◌, ◌++◌, map, filter, min, Option, is_some, Bool, true, false, ◌==◌, if◌then◌else◌}
 use Rattle.wa_types.specs.Syntax.{Func, Custom, Module}
 use Rattle.wa_types.specs.Encoding.{merged}
 
@@ -8,16 +8,11 @@ abbrev pub has_some : {X : Type 0} → List X → Bool
 has_some [] = false
 has_some (x ∷ xs) = true
 
--- a start function is told
-abbrev pub has_start : Option ℕ → Bool
-has_start None = false
-has_start (Some x) = true
-
 -- whether each known section is written, in rising id from 1
 abbrev pub written_flags : Module → List Bool
 written_flags m =
     has_some m.types ∷ has_some m.imports ∷ has_some m.funcs ∷ has_some m.tables ∷ has_some m.memories
-    ∷ has_some m.globals ∷ has_some m.exports ∷ has_start m.start ∷ has_some m.elems ∷ has_some m.funcs
+    ∷ has_some m.globals ∷ has_some m.exports ∷ is_some m.start ∷ has_some m.elems ∷ has_some m.funcs
     ∷ has_some m.segments ∷ []
 
 -- a custom section at this place
@@ -28,8 +23,8 @@ placed_at place c = record c { after = place }
 abbrev pub placed_behind : ℕ → List Custom → List Custom
 placed_behind id cs = filter (λ c. min c.after 11 == id) cs
 
--- Custom sections as they are written behind sections of ids from this one on, the last written one of a lower id
--- being `last`: each at the greatest id, not above its place, whose section is written.
+-- Custom sections as they are written behind sections of ids from this one on, `last` being the written one below: each at the greatest written
+-- id that isn't above its place.
 abbrev pub lowered : (id last : ℕ) → List Bool → List Custom → List Custom
 lowered id last [] cs = []
 lowered id last (written ∷ rest) cs =

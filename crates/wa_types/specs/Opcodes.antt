@@ -1,74 +1,55 @@
 -- The opcodes of the binary format: of each instruction with what follows it, what follows each of them, and which are floats
--- (standard, sections 5.3 and 5.4).
-use Rattle.std.specs.Prelude.{ℕ, length, Option, Some, None, Bool, nat_le, ◌==◌, ◌&&◌, ◌||◌, if◌then◌else◌}
+-- (standard, sections 5.3 and 5.4; copies and fills version 2.0, 5.4.6).
+use Rattle.std.specs.Prelude.{ℕ, List, [], ◌∷◌, length, Option, Some, None, Bool, nat_le, ◌==◌, ◌&&◌, ◌||◌, if◌then◌else◌}
 use Rattle.wa_types.specs.declared.values.Value.TheVariants.{I32 as value_32, I64 as value_64}
 use Rattle.wa_types.specs.Operators.{opcode_of, first_numeric, last_numeric}
-use Rattle.wa_types.specs.Syntax.{Basic, nop, drop, select, const, num, global_get, global_set, load, store, memory_size, memory_grow, Plain, basic, local_get, local_set, local_tee, br}
+use Rattle.wa_types.specs.Syntax.{Basic, nop, drop, select, const, num, global_get, global_set, load, store, memory_size, memory_grow, memory_copy, memory_fill, Plain, basic, local_get, local_set, local_tee, br}
 use Rattle.wa_types.specs.Syntax.{br_if, br_table, return, unreachable, call, call_indirect}
-use Rattle.wa_types.specs.Binary.{Immediates, nothing, zero_byte, index, index_and_zero, access, labels, constant, float}
+use Rattle.wa_types.specs.Binary.{Immediates, nothing, zero_byte, index, index_and_zero, access, labels, constant, float, bulk}
 
--- the opcode of an instruction that touches only its own operands and the store (5.4)
-abbrev pub basic_opcode : Basic → ℕ
-basic_opcode nop = 0x01
-basic_opcode drop = 0x1A
-basic_opcode select = 0x1B
-basic_opcode (const (value_32 n)) = 0x41
-basic_opcode (const (value_64 n)) = 0x42
-basic_opcode (num op) = opcode_of op
-basic_opcode (global_get x) = 0x23
-basic_opcode (global_set x) = 0x24
-basic_opcode (load op align offset) = op
-basic_opcode (store op align offset) = op
-basic_opcode memory_size = 0x3F
-basic_opcode memory_grow = 0x40
+-- the opcode of an instruction that touches only its own operands and the store, and what follows it (5.4)
+abbrev pub basic_row : Basic → ℕ × Immediates
+basic_row nop = (0x01, nothing)
+basic_row drop = (0x1A, nothing)
+basic_row select = (0x1B, nothing)
+basic_row (const (value_32 n)) = (0x41, constant 32 n)
+basic_row (const (value_64 n)) = (0x42, constant 64 n)
+basic_row (num op) = (opcode_of op, nothing)
+basic_row (global_get x) = (0x23, index x)
+basic_row (global_set x) = (0x24, index x)
+basic_row (load op align offset) = (op, access align offset)
+basic_row (store op align offset) = (op, access align offset)
+basic_row memory_size = (0x3F, zero_byte)
+basic_row memory_grow = (0x40, zero_byte)
+basic_row memory_copy = (0xFC, bulk 10)
+basic_row memory_fill = (0xFC, bulk 11)
 
--- the opcode of an instruction that holds no other (5.4)
+-- the same of an instruction that holds no other (5.4)
+abbrev pub plain_row : Plain → ℕ × Immediates
+plain_row (basic b) = basic_row b
+plain_row (local_get x) = (0x20, index x)
+plain_row (local_set x) = (0x21, index x)
+plain_row (local_tee x) = (0x22, index x)
+plain_row (br l) = (0x0C, index l)
+plain_row (br_if l) = (0x0D, index l)
+plain_row (br_table ls l) = (0x0E, labels ls l)
+plain_row return = (0x0F, nothing)
+plain_row unreachable = (0x00, nothing)
+plain_row (call x) = (0x10, index x)
+plain_row (call_indirect x) = (0x11, index_and_zero x)
+
+-- its opcode
 abbrev pub plain_opcode : Plain → ℕ
-plain_opcode (basic b) = basic_opcode b
-plain_opcode (local_get x) = 0x20
-plain_opcode (local_set x) = 0x21
-plain_opcode (local_tee x) = 0x22
-plain_opcode (br l) = 0x0C
-plain_opcode (br_if l) = 0x0D
-plain_opcode (br_table ls l) = 0x0E
-plain_opcode return = 0x0F
-plain_opcode unreachable = 0x00
-plain_opcode (call x) = 0x10
-plain_opcode (call_indirect x) = 0x11
+plain_opcode p = (plain_row p).0
 
--- what follows the opcode of an instruction that touches only its own operands and the store (5.4)
-abbrev pub basic_immediates : Basic → Immediates
-basic_immediates nop = nothing
-basic_immediates drop = nothing
-basic_immediates select = nothing
-basic_immediates (const (value_32 n)) = constant 32 n
-basic_immediates (const (value_64 n)) = constant 64 n
-basic_immediates (num op) = nothing
-basic_immediates (global_get x) = index x
-basic_immediates (global_set x) = index x
-basic_immediates (load op align offset) = access align offset
-basic_immediates (store op align offset) = access align offset
-basic_immediates memory_size = zero_byte
-basic_immediates memory_grow = zero_byte
-
--- what follows the opcode of an instruction that holds no other (5.4)
+-- what follows it
 abbrev pub plain_immediates : Plain → Immediates
-plain_immediates (basic b) = basic_immediates b
-plain_immediates (local_get x) = index x
-plain_immediates (local_set x) = index x
-plain_immediates (local_tee x) = index x
-plain_immediates (br l) = index l
-plain_immediates (br_if l) = index l
-plain_immediates (br_table ls l) = labels ls l
-plain_immediates return = nothing
-plain_immediates unreachable = nothing
-plain_immediates (call x) = index x
-plain_immediates (call_indirect x) = index_and_zero x
+plain_immediates p = (plain_row p).1
 
--- What may follow an opcode (5.4): nothing, a zero byte, an index, an index and a zero byte, an alignment exponent and an
--- offset, labels and a last one, a signed number of so many bits, or the bytes of a float.
+-- What may follow an opcode (5.4): nothing, a zero byte, an index, both, alignment and offset, labels, a signed number of so many bits, a float,
+-- or behind a prefix the number of an instruction.
 pub data Form : Type 0 where
-  no_immediate a_zero an_index an_index_and_zero an_access some_labels : Form
+  no_immediate a_zero an_index an_index_and_zero an_access some_labels a_bulk : Form
   a_constant : (bits : ℕ) → Form
   a_float : (size : ℕ) → Form
 
@@ -94,7 +75,8 @@ follows op =
     else (if op == 0x43 then Some (a_float 4)
     else (if op == 0x44 then Some (a_float 8)
     else (if within first_numeric last_numeric op then Some no_immediate
-    else None))))))))))))))
+    else (if op == 0xFC then Some a_bulk
+    else None)))))))))))))))
 
 -- the form of what follows an opcode (5.4)
 abbrev pub form : Immediates → Form
@@ -106,6 +88,11 @@ form (access align offset) = an_access
 form (labels targets last) = some_labels
 form (constant bits n) = a_constant bits
 form (float bytes) = a_float (length bytes)
+form (bulk n) = a_bulk
+
+-- the zero bytes behind the number of an instruction with the prefix 0xFC; no numbers but those of a copy and a fill are read
+abbrev pub zeros_of : ℕ → Option (List ℕ)
+zeros_of n = if n == 10 then Some (0x00 ∷ 0x00 ∷ []) else (if n == 11 then Some (0x00 ∷ []) else None)
 
 -- a value type (5.3.1)
 abbrev pub is_value_type : ℕ → Bool

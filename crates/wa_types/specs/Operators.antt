@@ -1,4 +1,4 @@
--- The table of numeric operators (standard, sections 2.4.1, 3.3.1 and 5.4.5).
+-- The table of numeric operators (standard, sections 2.4.1, 3.3.1 and 5.4.5; the sign extensions: version 2.0, sections 2.4.1 and 5.4.7).
 use Rattle.std.specs.Prelude.{ℕ, List, [], ◌∷◌}
 use Rattle.wa_types.specs.declared.values.ValType.{ValType}
 use Rattle.wa_types.specs.declared.values.ValType.TheVariants.{I32, I64}
@@ -7,7 +7,7 @@ use Rattle.wa_types.specs.declared.operators.NumOp.TheVariants.{I32Eqz, I32Eq, I
 use Rattle.wa_types.specs.declared.operators.NumOp.TheVariants.{I64GtS, I64GtU, I64LeS, I64LeU, I64GeS, I64GeU, I32Clz, I32Ctz, I32Popcnt, I32Add, I32Sub, I32Mul, I32DivS, I32DivU, I32RemS}
 use Rattle.wa_types.specs.declared.operators.NumOp.TheVariants.{I32RemU, I32And, I32Or, I32Xor, I32Shl, I32ShrS, I32ShrU, I32Rotl, I32Rotr, I64Clz, I64Ctz, I64Popcnt, I64Add, I64Sub, I64Mul}
 use Rattle.wa_types.specs.declared.operators.NumOp.TheVariants.{I64DivS, I64DivU, I64RemS, I64RemU, I64And, I64Or, I64Xor, I64Shl, I64ShrS, I64ShrU, I64Rotl, I64Rotr, I32WrapI64}
-use Rattle.wa_types.specs.declared.operators.NumOp.TheVariants.{I64ExtendI32S, I64ExtendI32U}
+use Rattle.wa_types.specs.declared.operators.NumOp.TheVariants.{I64ExtendI32S, I64ExtendI32U, I32Extend8S, I32Extend16S, I64Extend8S, I64Extend16S, I64Extend32S}
 
 -- A row of the table (2.4.1): the opcode, the types of the operands, topmost first, and the type of the result.
 pub record OperatorRow : Type 0 where
@@ -78,6 +78,11 @@ operator_row I64Rotr = record { opcode = 0x8A; operands = I64 ∷ I64 ∷ []; gi
 operator_row I32WrapI64 = record { opcode = 0xA7; operands = I64 ∷ []; gives = I32 }
 operator_row I64ExtendI32S = record { opcode = 0xAC; operands = I32 ∷ []; gives = I64 }
 operator_row I64ExtendI32U = record { opcode = 0xAD; operands = I32 ∷ []; gives = I64 }
+operator_row I32Extend8S = record { opcode = 0xC0; operands = I32 ∷ []; gives = I32 }
+operator_row I32Extend16S = record { opcode = 0xC1; operands = I32 ∷ []; gives = I32 }
+operator_row I64Extend8S = record { opcode = 0xC2; operands = I64 ∷ []; gives = I64 }
+operator_row I64Extend16S = record { opcode = 0xC3; operands = I64 ∷ []; gives = I64 }
+operator_row I64Extend32S = record { opcode = 0xC4; operands = I64 ∷ []; gives = I64 }
 
 -- the opcode of a numeric operator (5.4.5)
 abbrev pub opcode_of : NumOp → ℕ
@@ -91,9 +96,9 @@ operand_types op = (operator_row op).operands
 abbrev pub result_type : NumOp → ValType
 result_type op = (operator_row op).gives
 
--- the least and the greatest opcode of a numeric instruction, on integers or floats (5.4.5)
+-- the least and the greatest opcode of a numeric instruction, on integers or floats (5.4.5; version 2.0, 5.4.7)
 abbrev pub first_numeric : ℕ
 first_numeric = 0x45
 
 abbrev pub last_numeric : ℕ
-last_numeric = 0xBF
+last_numeric = 0xC4

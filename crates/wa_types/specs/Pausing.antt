@@ -129,8 +129,8 @@ calls_of (branch r a b rest) = calls_of a ++ calls_of b ++ calls_of rest
 abbrev pub calls_in : Func → List Callee
 calls_in f = calls_of (pruned f.body)
 
--- The defined function of this index may pause: its pruned body calls a listed import, has a `call_indirect`
--- that isn't ignored, or calls a function that may pause. It is the least such set.
+-- A defined function may pause: its pruned body calls a listed import, has a `call_indirect` that isn't ignored, or calls one that may. This is
+-- the least such set.
 pub data MayPause (m : Module) (s : Settings) : ℕ → Type 0 where
   calls_listed : (x : ℕ) → (f : Func) → (place i : ℕ) → defined_at m x ≡ Some f → slice_get (calls_in f) place ≡ Some (direct i) → slice_get (Listed m s) i ≡ Some true → MayPause m s x
   calls_indirectly : (x : ℕ) → (f : Func) → (place sort : ℕ) → defined_at m x ≡ Some f → slice_get (calls_in f) place ≡ Some (indirect sort) → s.ignore_indirect ≡ false → MayPause m s x
@@ -156,7 +156,6 @@ abbrev pub places_from : {X : Type 0} → (X → Bool) → ℕ → List X → Li
 places_from test n [] = []
 places_from test n (x ∷ xs) = if test x then n ∷ places_from test (suc n) xs else places_from test (suc n) xs
 
--- The places of a function's numbered calls, `which` being the functions that may pause. Call number k is the
--- one at the place that stands at k.
+-- The places of a function's numbered calls, `which` telling the functions that may pause. Call k is the one at the place that stands at k.
 abbrev pub Numbered : Module → Settings → List Bool → Func → List ℕ
 Numbered m s which f = places_from (has_number m s which) 0 (calls_in f)

@@ -44,8 +44,7 @@ unless_last false xs = xs
 unfoldable pub points : Around → List (Option ValType) → Code → (under ops : List ValType) → List (List ValType)
 points c ls done under ops = (ops ++ under) ∷ []
 points c ls (plain p rest) under ops = (ops ++ under) ∷ unless_last (is_last p) (points c ls rest under (after (sig c ls p) ops))
-points c ls (nest s r body rest) under ops =
-    (ops ++ under) ∷ (points c (label s r ∷ ls) body (ops ++ under) [] ++ points c ls rest under (listed r ++ ops))
+points c ls (nest s r body rest) under ops = (ops ++ under) ∷ (points c (label s r ∷ ls) body (ops ++ under) [] ++ points c ls rest under (listed r ++ ops))
 points c ls (branch r a b rest) under ops =
     (ops ++ under) ∷ (points c (r ∷ ls) a (drop 1 ops ++ under) [] ++ (points c (r ∷ ls) b (drop 1 ops ++ under) [] ++ points c ls rest under (listed r ++ drop 1 ops)))
 
@@ -57,10 +56,8 @@ if_call (Some x) ops = ops ∷ []
 -- the operands just before each call of a typed body, in order of code
 unfoldable pub call_points : Around → List (Option ValType) → Code → (under ops : List ValType) → List (List ValType)
 call_points c ls done under ops = []
-call_points c ls (plain p rest) under ops =
-    if_call (callee p) (ops ++ under) ++ unless_last (is_last p) (call_points c ls rest under (after (sig c ls p) ops))
-call_points c ls (nest s r body rest) under ops =
-    call_points c (label s r ∷ ls) body (ops ++ under) [] ++ call_points c ls rest under (listed r ++ ops)
+call_points c ls (plain p rest) under ops = if_call (callee p) (ops ++ under) ++ unless_last (is_last p) (call_points c ls rest under (after (sig c ls p) ops))
+call_points c ls (nest s r body rest) under ops = call_points c (label s r ∷ ls) body (ops ++ under) [] ++ call_points c ls rest under (listed r ++ ops)
 call_points c ls (branch r a b rest) under ops =
     call_points c (r ∷ ls) a (drop 1 ops ++ under) [] ++ (call_points c (r ∷ ls) b (drop 1 ops ++ under) [] ++ call_points c ls rest under (listed r ++ drop 1 ops))
 

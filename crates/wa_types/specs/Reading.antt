@@ -1,5 +1,6 @@
 -- Which module the sections of a file are, where they hold no float (standard, sections 2 and 5).
 use Rattle.std.specs.Prelude.{◌≡◌, ℕ, List, [], ◌∷◌, map, flat_map, IsTrue, option_to_list}
+use Rattle.std.specs.List.{AllZip}
 use Rattle.wa_types.specs.declared.values.ValType.{ValType}
 use Rattle.wa_types.specs.declared.syntax.Run.{Run}
 use Rattle.wa_types.specs.declared.syntax.ImportKind.{ImportKind}
@@ -32,21 +33,9 @@ abbrev pub IsCode : RawCode → (code else_arm : Code) → Type 0
 IsCode (ended k) done else_arm = else_arm ≡ done
 IsCode (otherwise k arm) done else_arm = IsCode arm else_arm done
 IsCode (instr op immediates rest) (plain p more) else_arm = IsPlain op immediates p × IsCode rest more else_arm
-IsCode (nested op result body rest) (nest s r inner more) else_arm =
-    (op.byte ≡ shape_byte s) × (result.byte ≡ block_type_byte r) × IsCode body inner done × IsCode rest more else_arm
-IsCode (branched op result arms rest) (branch r a b more) else_arm =
-    (result.byte ≡ block_type_byte r) × IsCode arms a b × IsCode rest more else_arm
+IsCode (nested op result body rest) (nest s r inner more) else_arm = (op.byte ≡ shape_byte s) × (result.byte ≡ block_type_byte r) × IsCode body inner done × IsCode rest more else_arm
+IsCode (branched op result arms rest) (branch r a b more) else_arm = (result.byte ≡ block_type_byte r) × IsCode arms a b × IsCode rest more else_arm
 IsCode _ _ else_arm = ⊥
-
--- the code that an expression is (5.4.6)
-abbrev pub IsExpression : RawCode → Code → Type 0
-IsExpression raw c = IsCode raw c done
-
--- two lists of a length, whose items are each the other's
-abbrev pub Each : {X Y : Type 0} → (X → Y → Type 0) → List X → List Y → Type 0
-Each R [] [] = Unit {0}
-Each R (x ∷ xs) (y ∷ ys) = R x y × Each R xs ys
-Each R _ _ = ⊥
 
 -- the value type of a byte (5.3.1)
 abbrev pub IsValueType : Placed → ValType → Type 0
@@ -54,8 +43,8 @@ IsValueType raw t = raw.byte ≡ type_byte t
 
 -- the function type that is spelled (5.3.3)
 pub record IsFuncType (raw : RawType) (t : FuncType) : Type 0 where
-  pub params : Each IsValueType raw.params t.params
-  pub results : Each IsValueType raw.results t.results
+  pub params : AllZip IsValueType raw.params t.params
+  pub results : AllZip IsValueType raw.results t.results
 
 -- what is imported (5.5.5)
 abbrev pub IsKind : RawKind → ImportKind → Type 0
@@ -70,16 +59,16 @@ pub record IsImport (raw : RawImport) (i : Import) : Type 0 where
   pub base : i.base ≡ raw.base
   pub kind : IsKind raw.kind i.kind
 
--- a defined global (5.5.9)
+-- a defined global, with its expression (5.4.6, 5.5.9)
 pub record IsGlobal (raw : RawGlobal) (g : GlobalDef) : Type 0 where
   pub ty : IsValueType raw.ty g.ty
   pub mutable : g.mutable ≡ raw.mutable
-  pub init : IsExpression raw.init g.init
+  pub init : IsCode raw.init g.init done
 
 -- an element segment (5.5.12)
 pub record IsElem (raw : RawElem) (e : Elem) : Type 0 where
   pub table : e.table ≡ raw.table
-  pub offset : IsExpression raw.offset e.offset
+  pub offset : IsCode raw.offset e.offset done
   pub funcs : e.funcs ≡ raw.funcs
 
 -- so many locals of one type (5.5.13)
@@ -89,13 +78,13 @@ pub record IsRun (raw : RawRun) (r : Run) : Type 0 where
 
 -- a function, by its body (5.5.13)
 pub record IsBody (raw : RawBody) (f : Func) : Type 0 where
-  pub locals : Each IsRun raw.locals f.locals
-  pub body : IsExpression raw.code f.body
+  pub locals : AllZip IsRun raw.locals f.locals
+  pub body : IsCode raw.code f.body done
 
 -- a data segment (5.5.14)
 pub record IsSegment (raw : RawSegment) (s : Segment) : Type 0 where
   pub memory : s.memory ≡ raw.memory
-  pub offset : IsExpression raw.offset s.offset
+  pub offset : IsCode raw.offset s.offset done
   pub bytes : s.bytes ≡ raw.bytes
 
 -- the types of a section, where it is of that kind (5.5.4)
@@ -151,17 +140,17 @@ customs_of last (s ∷ ss) = customs_of (section_id s) ss
 
 -- The module that the sections are (5.5.15). There is none where they hold a float.
 pub record IsModule (ss : List Section) (m : Module) : Type 0 where
-  pub types : Each IsFuncType (flat_map types_in ss) m.types
-  pub imports : Each IsImport (flat_map imports_in ss) m.imports
+  pub types : AllZip IsFuncType (flat_map types_in ss) m.types
+  pub imports : AllZip IsImport (flat_map imports_in ss) m.imports
   pub sorts : map (λ (f : Func). f.sort) m.funcs ≡ flat_map sorts_in ss
-  pub funcs : Each IsBody (flat_map bodies_in ss) m.funcs
+  pub funcs : AllZip IsBody (flat_map bodies_in ss) m.funcs
   pub tables : m.tables ≡ flat_map tables_in ss
   pub memories : m.memories ≡ flat_map memories_in ss
-  pub globals : Each IsGlobal (flat_map globals_in ss) m.globals
+  pub globals : AllZip IsGlobal (flat_map globals_in ss) m.globals
   pub exports : m.exports ≡ flat_map exports_in ss
   pub start : option_to_list m.start ≡ flat_map starts_in ss
-  pub elems : Each IsElem (flat_map elements_in ss) m.elems
-  pub segments : Each IsSegment (flat_map segments_in ss) m.segments
+  pub elems : AllZip IsElem (flat_map elements_in ss) m.elems
+  pub segments : AllZip IsSegment (flat_map segments_in ss) m.segments
   pub customs : m.customs ≡ customs_of 0 ss
 
 -- The bytes spell this module (5.5.15).

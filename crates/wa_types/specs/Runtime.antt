@@ -49,8 +49,7 @@ start_code number state address =
 
 -- the state becomes 0; then the test
 abbrev pub stop_code : ℕ → ℕ → Code
-stop_code state address =
-    plain (basic (const (value_32 0))) (plain (basic (global_set state)) (test_code address))
+stop_code state address = plain (basic (const (value_32 0))) (plain (basic (global_set state)) (test_code address))
 
 -- gives the state
 abbrev pub state_code : ℕ → Code

@@ -156,8 +156,7 @@ abbrev pub value_fits : Value → Type 0
 value_fits (value_32 n) = n < 2 ^ 32
 value_fits (value_64 n) = n < 2 ^ 64
 
--- The immediates of an instruction are numbers of 32 bits, and a load or a store has an opcode of its own kind,
--- on integers (2.4).
+-- Indices, alignments and offsets have 32 bits, constants their type's; loads and stores have opcodes of their kind, on integers (2.4).
 abbrev pub BasicFits : Basic → Type 0
 BasicFits (const v) = value_fits v
 BasicFits (global_get x) = x < 2 ^ 32
@@ -243,8 +242,7 @@ abbrev pub StartFits : Option ℕ → Type 0
 StartFits None = Unit {0}
 StartFits (Some x) = x < 2 ^ 32
 
--- Plain data is a module where each number is one of its type, names are UTF-8, and each load and store has an
--- opcode of its own kind, on integers (2.2 to 2.5).
+-- Plain data is a module where each number is one of its type, names are UTF-8, and loads and stores have opcodes of their kind (2.2 to 2.5).
 pub record WellFormed (m : Module) : Type 0 where
   pub imports : All ImportFits m.imports
   pub funcs : All FuncFits m.funcs

@@ -5,10 +5,10 @@ use Rattle.wa_types.specs.declared.syntax.Limits.{Limits}
 use Rattle.wa_types.specs.declared.syntax.Export.{Export}
 use Rattle.leb_numbers.specs.Leb.{IsUnsigned, IsSigned}
 use Rattle.wa_types.specs.Encoding.{space_byte, mutable_byte, preamble}
-use Rattle.wa_types.specs.Binary.{Placed, Immediates, nothing, zero_byte, index, index_and_zero, access, labels, constant, float, RawCode, ended, otherwise, instr, nested, branched, RawType}
+use Rattle.wa_types.specs.Binary.{Placed, Immediates, nothing, zero_byte, index, index_and_zero, access, labels, constant, float, bulk, RawCode, ended, otherwise, instr, nested, branched, RawType}
 use Rattle.wa_types.specs.Binary.{RawKind, raw_func, raw_table, raw_memory, raw_global, RawImport, RawGlobal, RawElem, RawRun, RawBody, RawSegment, Section, custom, types, imports}
 use Rattle.wa_types.specs.Binary.{functions, tables, memories, globals, exports, start, elements, bodies, segments, section_id}
-use Rattle.wa_types.specs.Opcodes.{follows, form, is_value_type, is_block_type, is_nest}
+use Rattle.wa_types.specs.Opcodes.{follows, form, zeros_of, is_value_type, is_block_type, is_nest}
 
 infixr 30 ◌▸◌
 -- one part, and another behind it
@@ -95,6 +95,7 @@ ImmediatesOf (access align offset) = Number align ▸ Number offset
 ImmediatesOf (labels targets last) = Vector Number targets ▸ Number last
 ImmediatesOf (constant bits n) = SignedNumber bits n
 ImmediatesOf (float bytes) = Exactly bytes
+ImmediatesOf (bulk n) = Number n ▸ (λ at bytes. zeros_of n ≡ Some bytes)
 
 -- instructions up to their end; an else stands only in the first arm of an if (5.4.1, 5.4.6)
 abbrev pub CodeOf : (first_arm : Bool) → RawCode → ℕ → List ℕ → Type 0

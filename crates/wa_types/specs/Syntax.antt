@@ -15,7 +15,7 @@ pub data Basic : Type 0 where
   num : NumOp → Basic
   global_get global_set : (x : ℕ) → Basic
   load store : (op align offset : ℕ) → Basic
-  memory_size memory_grow : Basic
+  memory_size memory_grow memory_copy memory_fill : Basic
 
 -- An instruction that holds no other (2.4).
 pub data Plain : Type 0 where

@@ -9,7 +9,7 @@ use Rattle.wa_types.specs.Accesses.{AccessRow, load_row, store_row}
 use Rattle.wa_types.specs.Encoding.{same_type}
 use Rattle.wa_types.specs.declared.rules.Rule.{Rule}
 use Rattle.wa_types.specs.declared.rules.Rule.TheVariants.{UnknownType, UnknownFunc, UnknownTable, UnknownMemory, UnknownGlobal, UnknownLocal, UnknownLabel, StackTypes, Alignment, ConstantGlobal}
-use Rattle.wa_types.specs.Syntax.{Basic, nop, drop, select, const, num, global_get, global_set, load, store, memory_size, memory_grow, Plain, basic, local_get, local_set, local_tee, br}
+use Rattle.wa_types.specs.Syntax.{Basic, nop, drop, select, const, num, global_get, global_set, load, store, memory_size, memory_grow, memory_copy, memory_fill, Plain, basic, local_get, local_set, local_tee, br}
 use Rattle.wa_types.specs.Syntax.{br_if, br_table, return, unreachable, call, call_indirect, Shape, a_block, a_loop, Code, done, plain, nest, branch, FuncType}
 
 -- A global type (2.3.7).
@@ -17,8 +17,7 @@ pub record GlobalType : Type 0 where
   pub ty : ValType
   pub mutable : Bool
 
--- What stands around a body (3.1.1, the context): the types, functions and globals of the module by index,
--- whether it has a table and a memory, the locals, parameters first, and the result.
+-- The context of a body (3.1.1): types, functions and globals by index; whether there is a table, a memory; locals, parameters first; the result.
 pub record Around : Type 0 where
   pub types : List FuncType
   pub funcs : List FuncType
@@ -30,18 +29,12 @@ pub record Around : Type 0 where
 
 -- What an instruction asks of the operands, the topmost first, and what it leaves (3.3).
 pub data Sig : Type 0 where
-  -- takes these operands off and puts those on (3.3.1 to 3.3.5)
-  moves : (ins outs : List ValType) → Sig
-  -- takes these operands, and control never goes on behind it: what it leaves is arbitrary (3.3.5)
-  leaves : (ins : List ValType) → Sig
-  -- takes one operand of any type (3.3.2.1)
-  drops : Sig
-  -- takes an i32 and two operands of one type, and puts one of this type on (3.3.2.2)
-  selects : Sig
-  -- whatever the operands, this rule fails, which is at most that on operands (`Rules`)
-  lacks : (rule : Rule) → Sig
-  -- asks for these operands, and then this rule fails, which is above that on operands
-  late : (rule : Rule) → (ins outs : List ValType) → Sig
+  moves : (ins outs : List ValType) → Sig  -- takes these operands off and puts those on (3.3.1 to 3.3.5)
+  leaves : (ins : List ValType) → Sig  -- takes these operands, and control never goes on behind it: what it leaves is arbitrary (3.3.5)
+  drops : Sig  -- takes one operand of any type (3.3.2.1)
+  selects : Sig  -- takes an i32 and two operands of one type, and puts one of this type on (3.3.2.2)
+  lacks : (rule : Rule) → Sig  -- whatever the operands, this rule fails, which is at most that on operands (`Rules`)
+  late : (rule : Rule) → (ins outs : List ValType) → Sig  -- asks for these operands, and then this rule fails, which is above that on operands
 
 -- a result type, as the list of its types (2.3.2)
 abbrev pub listed : Option ValType → List ValType
@@ -87,8 +80,7 @@ may_jump (Some r) = moves (I32 ∷ listed r) (listed r)
 -- br_table (3.3.5.8): all labels are there, and all take one result
 abbrev pub jumps : List (Option ValType) → List ℕ → Option (Option ValType) → Sig
 jumps ls labels None = lacks UnknownLabel
-jumps ls labels (Some r) =
-    if all_there ls labels then (if all_alike ls r labels then leaves (I32 ∷ listed r) else lacks StackTypes) else lacks UnknownLabel
+jumps ls labels (Some r) = if all_there ls labels then (if all_alike ls r labels then leaves (I32 ∷ listed r) else lacks StackTypes) else lacks UnknownLabel
 
 -- call (3.3.5.10)
 abbrev pub calls : Option FuncType → Sig
@@ -142,7 +134,7 @@ stores false align row = lacks UnknownMemory
 stores true align None = lacks StackTypes
 stores true align (Some row) = accesses align row (row.ty ∷ I32 ∷ []) []
 
--- memory.size and memory.grow (3.3.4.5, 3.3.4.6)
+-- what asks for a memory alone (3.3.4.5, 3.3.4.6)
 abbrev pub with_memory : Bool → (ins outs : List ValType) → Sig
 with_memory false ins outs = lacks UnknownMemory
 with_memory true ins outs = moves ins outs
@@ -160,9 +152,10 @@ basic_sig c (load op align offset) = loads c.memory align (load_row op)
 basic_sig c (store op align offset) = stores c.memory align (store_row op)
 basic_sig c memory_size = with_memory c.memory [] (I32 ∷ [])
 basic_sig c memory_grow = with_memory c.memory (I32 ∷ []) (I32 ∷ [])
+basic_sig c memory_copy = with_memory c.memory (I32 ∷ I32 ∷ I32 ∷ []) []
+basic_sig c memory_fill = with_memory c.memory (I32 ∷ I32 ∷ I32 ∷ []) []
 
--- What an instruction asks and leaves under these labels (3.3.1 to 3.3.5), the innermost first. Each label is the result that
--- a branch to it takes; the last one is the function's own.
+-- What an instruction asks and leaves under these labels (3.3.1 to 3.3.5), each the result that a branch takes, the function's own the last.
 abbrev pub sig : Around → List (Option ValType) → Plain → Sig
 sig c ls (basic b) = basic_sig c b
 sig c ls (local_get x) = gets (slice_get c.locals x)
@@ -190,14 +183,12 @@ abbrev pub label : Shape → Option ValType → Option ValType
 label a_block r = r
 label a_loop r = None
 
--- The code takes the operands `ins` to exactly the results `outs` (3.3.6, 3.3.5.3 to 3.3.5.5). A construct's
--- body begins without operands of its own.
+-- The code takes operands `ins` to exactly the results `outs` (3.3.6, 3.3.5.3 to 3.3.5.5). A construct's body begins without operands.
 unfoldable pub Types : Around → List (Option ValType) → Code → (outs ins : List ValType) → Type 0
 Types c ls done outs ins = ins ≡ outs
 Types c ls (plain p rest) outs ins = (mids : List ValType) × Takes (sig c ls p) ins mids × Types c ls rest outs mids
 Types c ls (nest s r body rest) outs ins = Types c (label s r ∷ ls) body (listed r) [] × Types c ls rest outs (listed r ++ ins)
-Types c ls (branch r a b rest) outs ins =
-    (below : List ValType) × (ins ≡ I32 ∷ below) × Types c (r ∷ ls) a (listed r) [] × Types c (r ∷ ls) b (listed r) [] × Types c ls rest outs (listed r ++ below)
+Types c ls (branch r a b rest) outs ins = (below : List ValType) × (ins ≡ I32 ∷ below) × Types c (r ∷ ls) a (listed r) [] × Types c (r ∷ ls) b (listed r) [] × Types c ls rest outs (listed r ++ below)
 
 -- A body has its type (3.4.1).
 abbrev pub Typed : Around → Code → Type 0

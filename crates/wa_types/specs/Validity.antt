@@ -3,6 +3,7 @@
 -- initialiser or an offset but that of a `global.get` that is its only instruction.
 use Rattle.std.specs.Prelude.{◌≡◌, ℕ, ◌^◌, ◌++◌, List, [], ◌∷◌, map, length, Option, Some, None, Bool, true, false, not, ◌&&◌, slice_get, nat_lt, nat_le, ◌==◌, if◌then◌else◌}
 use Rattle.std.specs.List.{filter_map, flat_map, list_all, list_any}
+use Rattle.std.specs.Option.{option_to_list}
 use Rattle.wa_types.specs.declared.values.ValType.{ValType}
 use Rattle.wa_types.specs.declared.values.ValType.TheVariants.{I32}
 use Rattle.wa_types.specs.declared.rules.Rule.{Rule}
@@ -34,11 +35,6 @@ same_space _ _ = false
 abbrev pub exported : Space → Module → List ℕ
 exported space m = filter_map (λ (e : Export). if same_space e.space space then Some e.index else None) m.exports
 
--- the index of the start function, where there is one (2.5.9)
-abbrev pub start_indices : Option ℕ → List ℕ
-start_indices None = []
-start_indices (Some x) = x ∷ []
-
 -- the index of a `global.get` that is the only instruction
 abbrev pub got_global : Code → List ℕ
 got_global (plain (basic (global_get x)) done) = x ∷ []
@@ -50,8 +46,7 @@ types_there m = all_below (length m.types) (func_sorts m)
 
 -- The functions that element segments, exports and the start name are there (3.4.5, 3.4.7, 3.4.8).
 abbrev pub funcs_there : Module → Bool
-funcs_there m =
-    all_below (length (func_sorts m)) (exported a_func m ++ start_indices m.start ++ flat_map (λ (e : Elem). e.funcs) m.elems)
+funcs_there m = all_below (length (func_sorts m)) (exported a_func m ++ option_to_list m.start ++ flat_map (λ (e : Elem). e.funcs) m.elems)
 
 -- The tables that element segments and exports name are there (3.4.5, 3.4.8).
 abbrev pub tables_there : Module → Bool
@@ -78,8 +73,7 @@ max_fits range low (Some high) = nat_le high range && nat_le low high
 abbrev pub limits_fit : ℕ → Limits → Bool
 limits_fit range l = nat_le l.min range && max_fits range l.min l.max
 
--- Tables are within 2^32 entries, memories within 65,536 pages, and no maximum is below its minimum
--- (3.2.3, 3.2.4).
+-- Tables are within 2^32 entries, memories within 65,536 pages, and no maximum is below its minimum (3.2.3, 3.2.4).
 abbrev pub all_limits_fit : Module → Bool
 all_limits_fit m = list_all (limits_fit (2 ^ 32)) (all_tables m) && list_all (limits_fit 65536) (all_memories m)
 
@@ -98,8 +92,7 @@ is_constant globals t (plain (basic (const v)) done) = same_type (type_of v) t
 is_constant globals t (plain (basic (global_get x)) done) = constant_of (slice_get globals x) t
 is_constant globals t _ = false
 
--- Initialisers are constant, and name imported globals alone; offsets are constant, of type i32
--- (3.4.4 to 3.4.6, 3.4.10).
+-- Initialisers are constant, and name imported globals alone; offsets are constant, of type i32 (3.4.4 to 3.4.6, 3.4.10).
 abbrev pub all_constant : Module → Bool
 all_constant m =
     list_all (λ (g : GlobalDef). is_constant (imported imported_global m) g.ty g.init) m.globals

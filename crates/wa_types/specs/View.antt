@@ -1,7 +1,7 @@
 -- What the values of the program are, as plain data: the vectors' memory is left out.
 use Rattle.std.specs.Prelude.{List, [], ◌∷◌, map}
 use Rattle.wa_types.specs.declared.instrs.Instr.{Instr, Row_of-Instr, end_of-Instr, more_of-Instr}
-use Rattle.wa_types.specs.declared.instrs.Instr.TheVariants.{Unreachable, Nop, Drop, Select, Return, MemorySize, MemoryGrow, Const, Num, Br, BrIf, BrTable, Call, CallIndirect, LocalGet}
+use Rattle.wa_types.specs.declared.instrs.Instr.TheVariants.{Unreachable, Nop, Drop, Select, Return, MemorySize, MemoryGrow, MemoryCopy, MemoryFill, Const, Num, Br, BrIf, BrTable, Call, CallIndirect, LocalGet}
 use Rattle.wa_types.specs.declared.instrs.Instr.TheVariants.{LocalSet, LocalTee, GlobalGet, GlobalSet, Load, Store, Block', Loop', If'}
 use Rattle.wa_types.specs.declared.syntax.FuncType.{FuncType as FuncTypeValue}
 use Rattle.wa_types.specs.declared.syntax.Func.{Func as FuncValue}
@@ -10,7 +10,7 @@ use Rattle.wa_types.specs.declared.syntax.Elem.{Elem as ElemValue}
 use Rattle.wa_types.specs.declared.syntax.Segment.{Segment as SegmentValue}
 use Rattle.wa_types.specs.declared.syntax.Custom.{Custom as CustomValue}
 use Rattle.wa_types.specs.declared.syntax.Module.{Module as ModuleValue}
-use Rattle.wa_types.specs.Syntax.{nop, drop, select, const, num, global_get, global_set, load, store, memory_size, memory_grow, basic, local_get, local_set, local_tee, br, br_if, br_table}
+use Rattle.wa_types.specs.Syntax.{nop, drop, select, const, num, global_get, global_set, load, store, memory_size, memory_grow, memory_copy, memory_fill, basic, local_get, local_set, local_tee, br, br_if, br_table}
 use Rattle.wa_types.specs.Syntax.{return, unreachable, call, call_indirect, a_block, a_loop, Code, done, plain, nest, branch, FuncType, Func, GlobalDef, Elem, Segment, Custom, Module}
 
 unfoldable mutual
@@ -23,6 +23,8 @@ unfoldable mutual
   in_front Return rest = plain return rest
   in_front MemorySize rest = plain (basic memory_size) rest
   in_front MemoryGrow rest = plain (basic memory_grow) rest
+  in_front MemoryCopy rest = plain (basic memory_copy) rest
+  in_front MemoryFill rest = plain (basic memory_fill) rest
   in_front (Const v) rest = plain (basic (const v)) rest
   in_front (Num op) rest = plain (basic (num op)) rest
   in_front (Br l) rest = plain (br l) rest

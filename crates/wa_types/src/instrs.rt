@@ -13,6 +13,8 @@ pub enum Instr {
     Return,
     MemorySize,
     MemoryGrow,
+    MemoryCopy,
+    MemoryFill,
     Const(Value),
     Num(NumOp),
     Br(u32),

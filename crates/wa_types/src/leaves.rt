@@ -22,6 +22,8 @@ pub fn copy_leaf(alloc: Global, instr: &Instr) -> Result<Instr, AllocError>
         Instr::Return => Ok(Instr::Return),
         Instr::MemorySize => Ok(Instr::MemorySize),
         Instr::MemoryGrow => Ok(Instr::MemoryGrow),
+        Instr::MemoryCopy => Ok(Instr::MemoryCopy),
+        Instr::MemoryFill => Ok(Instr::MemoryFill),
         Instr::Const(value) => Ok(Instr::Const(*value)),
         Instr::Num(op) => Ok(Instr::Num(*op)),
         Instr::Br(label) => Ok(Instr::Br(*label)),

@@ -1,9 +1,9 @@
 //! Numeric operators on integers, by their opcodes (standard, sections 2.4.1 and 5.4.5).
 
-/// The greatest opcode of a numeric instruction, on integers or floats (standard, section 5.4.5).
-pub const LAST_NUMERIC: u8 = 0xBF;
+/// The greatest opcode of a numeric instruction, on integers or floats (standard, section 5.4.5; from 0xC0 on version 2.0, section 5.4.7).
+pub const LAST_NUMERIC: u8 = 0xC4;
 
-/// A numeric operator (standard, sections 2.4.1 and 5.4.5); its number is its opcode.
+/// A numeric operator (standard, sections 2.4.1 and 5.4.5; the sign extensions: version 2.0, section 5.4.7); its number is its opcode.
 #[derive(Clone, Copy)]
 pub enum NumOp {
     I32Eqz = 0x45,
@@ -67,10 +67,15 @@ pub enum NumOp {
     I32WrapI64 = 0xA7,
     I64ExtendI32S = 0xAC,
     I64ExtendI32U = 0xAD,
+    I32Extend8S = 0xC0,
+    I32Extend16S = 0xC1,
+    I64Extend8S = 0xC2,
+    I64Extend16S = 0xC3,
+    I64Extend32S = 0xC4,
 }
 
-// All operators, by rising opcode (standard, section 5.4.5). The last three are found by name below; proofs read the whole list.
-const OPERATORS: [NumOp; 61] = [
+// All operators, by rising opcode (standard, section 5.4.5). The three conversions are found by name below; proofs read the whole list.
+const OPERATORS: [NumOp; 66] = [
     NumOp::I32Eqz,
     NumOp::I32Eq,
     NumOp::I32Ne,
@@ -132,6 +137,11 @@ const OPERATORS: [NumOp; 61] = [
     NumOp::I32WrapI64,
     NumOp::I64ExtendI32S,
     NumOp::I64ExtendI32U,
+    NumOp::I32Extend8S,
+    NumOp::I32Extend16S,
+    NumOp::I64Extend8S,
+    NumOp::I64Extend16S,
+    NumOp::I64Extend32S,
 ];
 
 impl NumOp {
@@ -152,13 +162,14 @@ impl NumOp {
         ensures named { (n : NumOp) → op ≡ opcode_of n → result ≡ Some n }
         ensures names { (n : NumOp) → result ≡ Some n → op ≡ opcode_of n }
     {
-        // In the array 22 operators stand before that of 0x67.
+        // In the array 22 operators stand before that of 0x67, and 61 before that of 0xC0.
         match op {
             0x45..=0x5A => Some(OPERATORS[(op - 0x45) as usize]),
             0x67..=0x8A => Some(OPERATORS[(op - 0x51) as usize]),
             0xA7 => Some(NumOp::I32WrapI64),
             0xAC => Some(NumOp::I64ExtendI32S),
             0xAD => Some(NumOp::I64ExtendI32U),
+            0xC0..=0xC4 => Some(OPERATORS[(op - 0x83) as usize]),
             _ => None,
         }
     }

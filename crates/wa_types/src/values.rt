@@ -14,7 +14,7 @@ pub enum Value {
     I64(u64),
 }
 
-/// Why a reduction traps (standard, section 4.2.2), in the order of their numbers from 1 to 8.
+/// Why a run traps (standard, section 4.2.2), in the order of their numbers from 1 to 9; all but `Import` are reductions'.
 #[derive(Clone, Copy, Debug, PartialEq, Eq)]
 pub enum Trap {
     DivideByZero,
@@ -25,4 +25,6 @@ pub enum Trap {
     UninitializedElement,
     TypeMismatch,
     StackExhausted,
+    /// An import trapped.
+    Import,
 }

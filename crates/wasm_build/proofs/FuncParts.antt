@@ -1,7 +1,7 @@
 -- Functions from their types and bodies.
 use Rattle.std.proofs.Common.{ℕ, List}
 use Rattle.wa_types.specs.Syntax.{Func}
-use Rattle.build_entries.specs.BuildsSections.{PlainBody, SpelledBody, SpelledFunc}
+use Rattle.wasm_build.specs.BuildsSections.{PlainBody, SpelledBody, SpelledFunc}
 
 abbrev pub plain_body : Func → PlainBody
 plain_body f = record { locals = f.locals; code = f.body }

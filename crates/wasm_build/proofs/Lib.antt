@@ -1,5 +1,15 @@
+pub mod Betweens
+pub mod CodeEntries
+pub mod CodeParts
+pub mod EntryParts
 pub mod FuncParts
+pub mod KindParts
 pub mod ModuleSums
+pub mod OpenLevels
 pub mod PieceParts
+pub mod PlainNames
+pub mod PlainParts
 pub mod SectionArms
+pub mod SectionParts
 pub mod SizedParts
+pub mod Steps

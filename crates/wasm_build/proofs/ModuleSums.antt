@@ -1,26 +1,26 @@
 -- The sections of a module add up to it.
 use Rattle.std.proofs.Common.{◌≡◌, ℕ, ◌<◌, ◌≤◌, List, [], ◌∷◌, ◌++◌, map, Option, Some, None, option_to_list, refl, ap, sym, ◌∙◌, subst, arith, append-nil, append_assoc, length}
-use Rattle.std.specs.List.{flat_map}
+use Rattle.std.specs.List.{AllZip, flat_map}
 use Rattle.wa_types.specs.Binary.{Section, custom, types, imports, functions, tables, memories, globals, exports, start, elements, bodies, segments}
 use Rattle.wa_types.specs.Syntax.{Func, Custom, Module}
 use Rattle.wa_types.specs.Spells.{Rising, sorts_in, bodies_in}
-use Rattle.wa_types.specs.Reading.{Each, IsFuncType, IsImport, IsGlobal, IsElem, IsBody, IsSegment, types_in, imports_in, tables_in, memories_in, globals_in, exports_in, starts_in}
+use Rattle.wa_types.specs.Reading.{IsFuncType, IsImport, IsGlobal, IsElem, IsBody, IsSegment, types_in, imports_in, tables_in, memories_in, globals_in, exports_in, starts_in}
 use Rattle.wa_types.specs.Reading.{elements_in, segments_in, customs_of, IsModule}
 use Rattle.wasm_build.specs.BuildsModule.{State, nothing_yet, AddsAll}
 
 -- what the sections that are left hold of a module
 record Rest (p : State) (ss : List Section) (n : Module) : Type 0 where
-  types_are : Each IsFuncType (flat_map types_in ss) n.types
-  imports_are : Each IsImport (flat_map imports_in ss) n.imports
-  funcs_are : Each IsBody (flat_map bodies_in ss) n.funcs
+  types_are : AllZip IsFuncType (flat_map types_in ss) n.types
+  imports_are : AllZip IsImport (flat_map imports_in ss) n.imports
+  funcs_are : AllZip IsBody (flat_map bodies_in ss) n.funcs
   sorted : p.last < 10 → p.sorts ++ flat_map sorts_in ss ≡ map (λ (f : Func). f.sort) n.funcs
   tables_are : n.tables ≡ flat_map tables_in ss
   memories_are : n.memories ≡ flat_map memories_in ss
-  globals_are : Each IsGlobal (flat_map globals_in ss) n.globals
+  globals_are : AllZip IsGlobal (flat_map globals_in ss) n.globals
   exports_are : n.exports ≡ flat_map exports_in ss
   started : option_to_list p.held.start ++ flat_map starts_in ss ≡ option_to_list n.start
-  elems_are : Each IsElem (flat_map elements_in ss) n.elems
-  segments_are : Each IsSegment (flat_map segments_in ss) n.segments
+  elems_are : AllZip IsElem (flat_map elements_in ss) n.elems
+  segments_are : AllZip IsSegment (flat_map segments_in ss) n.segments
   customs_are : n.customs ≡ customs_of p.last ss
 
 -- a state's module with that behind it
@@ -37,7 +37,7 @@ record Joined (p : Module) (n : Module) (q : Module) : Type 0 where
   customs_join : q.customs ≡ p.customs ++ n.customs
   start_is : q.start ≡ n.start
 
-each_none : {X Y : Type 0} (R : X → Y → Type 0) (ys : List Y) → Each R [] ys → ys ≡ []
+each_none : {X Y : Type 0} (R : X → Y → Type 0) (ys : List Y) → AllZip R [] ys → ys ≡ []
 each_none R [] h = refl
 each_none R (y ∷ ys) h = absurd h
 
@@ -46,10 +46,10 @@ record Split {X Y : Type 0} (R : X → Y → Type 0) (xs more : List X) (zs : Li
   front : List Y
   back : List Y
   whole : zs ≡ front ++ back
-  front_is : Each R xs front
-  back_is : Each R more back
+  front_is : AllZip R xs front
+  back_is : AllZip R more back
 
-split_each : {X Y : Type 0} (R : X → Y → Type 0) (xs more : List X) (zs : List Y) → Each R (xs ++ more) zs → Split R xs more zs
+split_each : {X Y : Type 0} (R : X → Y → Type 0) (xs more : List X) (zs : List Y) → AllZip R (xs ++ more) zs → Split R xs more zs
 split_each R [] more zs h = record { front = []; back = zs; whole = refl; front_is = tt; back_is = h }
 split_each R (x ∷ xs) more [] h = absurd h
 split_each R (x ∷ xs) more (z ∷ zs) h =
@@ -465,7 +465,7 @@ add_all (elements es ∷ ss) p n r h =
     }
 add_all (bodies bs ∷ ss) p n r h =
     let s = split_each IsBody bs (flat_map bodies_in ss) n.funcs h.funcs_are in
-    let none = each_none IsBody s.back (subst (λ z. Each IsBody z s.back) (no_bodies 10 ss (omega arith) r.1) s.back_is) in
+    let none = each_none IsBody s.back (subst (λ z. AllZip IsBody z s.back) (no_bodies 10 ss (omega arith) r.1) s.back_is) in
     let all : n.funcs ≡ s.front = s.whole ∙ ap (λ z. s.front ++ z) none ∙ append-nil s.front in
     let sorted : map (λ (f : Func). f.sort) s.front ≡ p.sorts = ap (map (λ (f : Func). f.sort)) (sym all) ∙ sym (let e = r.0 in h.sorted e)
     ∙ ap (λ z. p.sorts ++ z) (no_sorts 10 ss (omega arith) r.1) ∙ append-nil p.sorts in

@@ -1,8 +1,6 @@
 -- One step of building what comes: what is built stands at the front of the rest of the file, and the rest of that comes next.
-use Rattle.std.proofs.Common.{◌≡◌, ◌⊎◌, inl, inr, ℕ, suc, ◌+◌, ◌-◌, ◌<◌, ◌≤◌, List, [], ◌∷◌, ◌++◌, map}
-use Rattle.std.proofs.Common.{Option, Some, None, Result, Ok, Err, refl, ap, sym, ◌∙◌, subst, arith, append_assoc, append-nil, length}
-use Rattle.std.proofs.Common.{length-append, length-take-le, take, drop, get_or, cond, Bool, true, false, nat_lt, ltb-true, ltb-false, add-zero, length-drop, IfSome}
-use Rattle.wa_types.specs.Leb.{IsUnsigned}
+use Rattle.std.proofs.Common.{◌≡◌, ◌⊎◌, inl, inr, ℕ, suc, ◌+◌, ◌-◌, ◌<◌, ◌≤◌, List, [], ◌∷◌, ◌++◌, map, Option, Some, None, Result, Ok, Err, refl, ap, sym, ◌∙◌, subst, arith, append_assoc, append-nil, length, length-append, length-take-le, take, drop, get_or, cond, Bool, true, false, nat_lt, ltb-true, ltb-false, add-zero, length-drop, IfSome}
+use Rattle.leb_numbers.specs.Leb.{IsUnsigned}
 use Rattle.std.proofs.lemmas.List.{take-append-drop, drop_more, drop_all, drop-drop}
 use Rattle.wa_types.specs.declared.syntax.Func.{Func as FuncValue}
 use Rattle.wa_types.specs.Binary.{Section as PlainSection, section_id}
@@ -10,23 +8,23 @@ use Rattle.wa_types.specs.Syntax.{Func, Module}
 use Rattle.wa_types.specs.View.{func_of}
 use Rattle.wa_types.specs.Spells.{◌▸◌, Items, Sized, Vector, ContentOf, SectionOf}
 use Rattle.file_laws.proofs.Items.{same_cut}
-use Rattle.wasm_cursor.specs.Places.{Place, with_more, place_at}
-use Rattle.build_types.specs.declared.BuildFault.{BuildFault}
-use Rattle.build_types.specs.declared.BuildFault.TheVariants.{Memory, NotSpelled}
+use Rattle.wasm_grammar.specs.Places.{Place, with_more, place_at}
+use Rattle.wasm_build.specs.declared.build_types.BuildFault.{BuildFault}
+use Rattle.wasm_build.specs.declared.build_types.BuildFault.TheVariants.{Memory, NotSpelled}
 use Rattle.wasm_build.specs.declared.builder.Builder.{Builder}
 use Rattle.wasm_build.specs.declared.builder.Stage.{Stage}
 use Rattle.wasm_build.specs.declared.builder.Stage.TheVariants.{Preamble, Section, Entry, Body}
-use Rattle.build_entries.specs.declared.entries.Body.{Body as BodyValue}
+use Rattle.wasm_build.specs.declared.entries.Body.{Body as BodyValue}
 use Rattle.wasm_build.specs.declared.sections.Sections.{Sections}
 use Rattle.wasm_build.specs.declared.sections.Entries.{Entries}
 use Rattle.wasm_build.specs.declared.sections.Entries.TheVariants.{Types, Imports, Functions, Tables, Memories, Globals, Exports, Elements, Segments}
-use Rattle.build_types.specs.Builds.{Between, Builds}
+use Rattle.wasm_build.specs.Builds.{Between, Builds}
 use Rattle.wasm_build.specs.BuildsModule.{State, state_of, nothing_yet, Adds, AddsAll, SpelledSingle, SpelledSections}
-use Rattle.build_entries.specs.BuildsSections.{SpelledBody, SpelledFunc, body_of}
+use Rattle.wasm_build.specs.BuildsSections.{SpelledBody, SpelledFunc, body_of}
 use Rattle.wasm_build.specs.BuildsEntries.{id_of, AreOf, IsOther, Item, SpelledItem, with_items, SpelledEntry}
 use Rattle.wasm_build.specs.BuildsPieces.{with_funcs, SpelledBodies, AheadOf, stage_behind, stage_before, Comes, Coming, Stepped, Steps, Taken, Takes}
 use Rattle.wasm_build.specs.Extents.{Extent, NumberAt, NoNumberAt, EndsAt, NoEnd}
-use Rattle.build_types.proofs.Betweens.{map_append, built_alone}
+use Rattle.wasm_build.proofs.Betweens.{map_append, built_alone}
 use Rattle.wasm_build.proofs.FuncParts.{plain_body, as_body}
 use Rattle.wasm_build.proofs.ModuleSums.{module_adds}
 use Rattle.wasm_build.proofs.SectionArms.{code_arm, vector_arm, no_section}

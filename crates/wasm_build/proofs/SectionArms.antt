@@ -1,24 +1,24 @@
--- What a section adds, by its id.
+-- What a section adds, by its id, and that nothing is built where its size or content can't be read.
 use Rattle.std.proofs.Common.{◌≡◌, ◌⊎◌, inl, inr, ℕ, ◌+◌, List, [], ◌∷◌, ◌++◌, map, Option, Some, None, Result, Ok, Err, OnErr, refl, ap, sym, ◌∙◌, subst, arith}
 use Rattle.std.specs.Prelude.{◌==◌, if◌then◌else◌}
 use Rattle.wa_types.specs.declared.syntax.Custom.{Custom as CustomValue}
-use Rattle.wa_types.specs.Leb.{IsUnsigned}
+use Rattle.leb_numbers.specs.Leb.{IsUnsigned}
 use Rattle.wa_types.specs.Binary.{Section, custom, types, imports, functions, tables, memories, globals, exports, start, elements, bodies, segments, section_id}
 use Rattle.wa_types.specs.Syntax.{Func, Custom}
 use Rattle.wa_types.specs.View.{custom_of}
 use Rattle.wa_types.specs.Spells.{Exactly, Number, Filling, Sized, Vector, ContentOf, FunctionType, ImportOf, GlobalOf, ElementOf, BodyOf, SegmentOf}
 use Rattle.wa_types.specs.Reading.{IsFuncType, IsImport, IsGlobal, IsElem, IsBody, IsSegment}
-use Rattle.build_types.specs.declared.BuildFault.{BuildFault}
+use Rattle.wasm_build.specs.declared.build_types.BuildFault.{BuildFault}
 use Rattle.wasm_build.specs.declared.sections.Entries.{Entries}
 use Rattle.wasm_build.specs.declared.sections.Entries.TheVariants.{Types, Imports, Functions, Tables, Memories, Globals, Exports, Elements, Segments}
-use Rattle.wasm_cursor.specs.declared.front.NotSpelled.{NotSpelled}
-use Rattle.wasm_cursor.specs.Places.{Place, with_more, ReadsNumber}
-use Rattle.build_types.specs.Builds.{Between, SpelledOnto, Gives, Builds}
-use Rattle.build_entries.specs.BuildsSections.{SpelledFunc, SpelledCustom}
+use Rattle.wasm_grammar.specs.declared.front.NotSpelled.{NotSpelled}
+use Rattle.wasm_grammar.specs.Places.{Place, with_more, ReadsNumber}
+use Rattle.wasm_build.specs.Builds.{Between, SpelledOnto, Gives, Builds}
+use Rattle.wasm_build.specs.BuildsSections.{SpelledFunc, SpelledCustom}
 use Rattle.wasm_build.specs.BuildsModule.{State, Adds, SpelledStart, SpelledSingle}
 use Rattle.wasm_build.specs.BuildsEntries.{id_of, AreOf, IsOther, Item, SpelledItem, with_items, SpelledEntry}
-use Rattle.build_types.proofs.Betweens.{map_append, parts, behind_first, as_vector, number_is, number_fails, byte_is, no_byte, fails}
-use Rattle.build_types.proofs.Steps.{never}
+use Rattle.wasm_build.proofs.Betweens.{map_append, parts, behind_first, as_vector, number_is, number_fails, byte_is, no_byte, fails}
+use Rattle.wasm_build.proofs.Steps.{never}
 
 gives_by : {A X Y : Type 0} (view : A → X) (other : A → Y) (more : List ℕ) (new end : Place) (x : X) (y : Y) (r : Result A BuildFault) → ((a : A) → view a ≡ x → other a ≡ y)
     → Gives view more r x new end → Gives other more r y new end

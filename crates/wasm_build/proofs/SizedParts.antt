@@ -1,11 +1,10 @@
 -- Where numbers and parts that stand behind their size end, whatever follows.
-use Rattle.std.proofs.Common.{◌≡◌, ℕ, ◌+◌, ◌-◌, ◌^◌, ◌<◌, ◌≤◌, List, [], ◌∷◌, ◌++◌, Result, Ok, Err, ap, sym, ◌∙◌, refl, arith, append_assoc, append-nil, length, length-append, length-drop}
-use Rattle.std.proofs.Common.{drop, nat_lt}
-use Rattle.wa_types.specs.LebFault.{LebFault}
-use Rattle.wa_types.specs.LebFault.TheVariants.{Short}
-use Rattle.wa_types.specs.Leb.{unsigned_at}
+use Rattle.std.proofs.Common.{◌≡◌, ℕ, ◌+◌, ◌-◌, ◌^◌, ◌<◌, ◌≤◌, List, [], ◌∷◌, ◌++◌, Result, Ok, Err, ap, sym, ◌∙◌, refl, arith, append_assoc, append-nil, length, length-append, length-drop, drop, nat_lt}
+use Rattle.leb_numbers.specs.declared.leb.LebFault.{LebFault}
+use Rattle.leb_numbers.specs.declared.leb.LebFault.TheVariants.{Short}
+use Rattle.leb_numbers.specs.Leb.{unsigned_at}
 use Rattle.file_laws.proofs.NumberReading.{unsigned_stays, unsigned_again}
-use Rattle.wasm_cursor.proofs.Cursors.{unsigned_grows, either_grows}
+use Rattle.wasm_grammar.proofs.Cursors.{unsigned_grows, either_grows}
 use Rattle.wasm_build.specs.Extents.{NumberAt, NoNumberAt, EndsAt, NoEnd}
 
 past : (bits b : ℕ) (bs : List ℕ) (at : ℕ) → at + 1 ≤ (unsigned_at bits (b ∷ bs) at).1

@@ -8,7 +8,7 @@ use Rattle.wa_types.specs.Spells.{Number, FunctionType, ImportOf, TableType, Lim
 use Rattle.wa_types.specs.Reading.{IsFuncType, IsImport, IsGlobal, IsElem, IsSegment}
 use Rattle.wasm_build.specs.declared.sections.Entries.{Entries}
 use Rattle.wasm_build.specs.declared.sections.Entries.TheVariants.{Types, Imports, Functions, Tables, Memories, Globals, Exports, Elements, Segments}
-use Rattle.build_types.specs.Builds.{SpelledAs}
+use Rattle.wasm_build.specs.Builds.{SpelledAs}
 use Rattle.wasm_build.specs.BuildsModule.{State}
 
 -- the id of their section (5.5.2)

@@ -1,14 +1,15 @@
 -- What the builder gives for bytes that spell sections, and a module.
 use Rattle.std.specs.Prelude.{◌≡◌, ◌⊎◌, ℕ, List, [], ◌∷◌, ◌++◌, map, Some, None, Result, Ok, Err}
+use Rattle.std.specs.List.{AllZip}
 use Rattle.wa_types.specs.declared.syntax.Import.{Import}
 use Rattle.wa_types.specs.declared.syntax.Module.{Module as ModuleValue}
 use Rattle.wa_types.specs.Binary.{Section, custom, types, imports, functions, tables, memories, globals, exports, start, elements, bodies, segments, section_id}
 use Rattle.wa_types.specs.Syntax.{FuncType, Func, GlobalDef, Elem, Segment, Module}
 use Rattle.wa_types.specs.View.{module_of}
 use Rattle.wa_types.specs.Spells.{Number, Items, Sized, SectionOf}
-use Rattle.wa_types.specs.Reading.{Each, IsFuncType, IsImport, IsGlobal, IsElem, IsBody, IsSegment}
-use Rattle.build_types.specs.declared.BuildFault.{BuildFault}
-use Rattle.build_types.specs.declared.BuildFault.TheVariants.{Memory}
+use Rattle.wa_types.specs.Reading.{IsFuncType, IsImport, IsGlobal, IsElem, IsBody, IsSegment}
+use Rattle.wasm_build.specs.declared.build_types.BuildFault.{BuildFault}
+use Rattle.wasm_build.specs.declared.build_types.BuildFault.TheVariants.{Memory}
 use Rattle.wasm_build.specs.declared.sections.Sections.{Sections}
 
 -- What the sections up to a place hold.
@@ -46,22 +47,22 @@ abbrev pub Adds : Section → State → State → Type 0
 Adds (custom name bytes) p q =
     q ≡ record p { held = record p.held { customs = p.held.customs ++ (record { after = p.last; name = name; bytes = bytes }) ∷ [] } }
 Adds (types ts) p q =
-    (xs : List FuncType) × Each IsFuncType ts xs × (q ≡ record p { held = record p.held { types = p.held.types ++ xs }; last = 1 })
+    (xs : List FuncType) × AllZip IsFuncType ts xs × (q ≡ record p { held = record p.held { types = p.held.types ++ xs }; last = 1 })
 Adds (imports is) p q =
-    (xs : List Import) × Each IsImport is xs × (q ≡ record p { held = record p.held { imports = p.held.imports ++ xs }; last = 2 })
+    (xs : List Import) × AllZip IsImport is xs × (q ≡ record p { held = record p.held { imports = p.held.imports ++ xs }; last = 2 })
 Adds (globals gs) p q =
-    (xs : List GlobalDef) × Each IsGlobal gs xs × (q ≡ record p { held = record p.held { globals = p.held.globals ++ xs }; last = 6 })
+    (xs : List GlobalDef) × AllZip IsGlobal gs xs × (q ≡ record p { held = record p.held { globals = p.held.globals ++ xs }; last = 6 })
 Adds (elements es) p q =
-    (xs : List Elem) × Each IsElem es xs × (q ≡ record p { held = record p.held { elems = p.held.elems ++ xs }; last = 9 })
+    (xs : List Elem) × AllZip IsElem es xs × (q ≡ record p { held = record p.held { elems = p.held.elems ++ xs }; last = 9 })
 Adds (segments ss) p q =
-    (xs : List Segment) × Each IsSegment ss xs × (q ≡ record p { held = record p.held { segments = p.held.segments ++ xs }; last = 11 })
+    (xs : List Segment) × AllZip IsSegment ss xs × (q ≡ record p { held = record p.held { segments = p.held.segments ++ xs }; last = 11 })
 Adds (tables xs) p q = q ≡ record p { held = record p.held { tables = p.held.tables ++ xs }; last = 4 }
 Adds (memories xs) p q = q ≡ record p { held = record p.held { memories = p.held.memories ++ xs }; last = 5 }
 Adds (exports xs) p q = q ≡ record p { held = record p.held { exports = p.held.exports ++ xs }; last = 7 }
 Adds (functions xs) p q = q ≡ record p { sorts = p.sorts ++ xs; last = 3 }
 Adds (start x) p q = q ≡ record p { held = record p.held { start = Some x }; last = 8 }
 Adds (bodies bs) p q =
-    (fs : List Func) × Each IsBody bs fs × (map (λ (f : Func). f.sort) fs ≡ p.sorts) × (q ≡ record p { held = record p.held { funcs = p.held.funcs ++ fs }; last = 10 })
+    (fs : List Func) × AllZip IsBody bs fs × (map (λ (f : Func). f.sort) fs ≡ p.sorts) × (q ≡ record p { held = record p.held { funcs = p.held.funcs ++ fs }; last = 10 })
 
 -- so do several
 abbrev pub AddsAll : List Section → State → State → Type 0

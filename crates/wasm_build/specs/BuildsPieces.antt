@@ -4,13 +4,13 @@ use Rattle.wa_types.specs.Encoding.{preamble}
 use Rattle.wa_types.specs.Syntax.{Func, Module}
 use Rattle.wa_types.specs.Spells.{◌▸◌, Exactly, Items}
 use Rattle.wa_types.specs.Reading.{SpellsModule}
-use Rattle.build_types.specs.declared.BuildFault.{BuildFault}
-use Rattle.build_types.specs.declared.BuildFault.TheVariants.{Memory}
+use Rattle.wasm_build.specs.declared.build_types.BuildFault.{BuildFault}
+use Rattle.wasm_build.specs.declared.build_types.BuildFault.TheVariants.{Memory}
 use Rattle.wasm_build.specs.declared.builder.Builder.{Builder}
 use Rattle.wasm_build.specs.declared.builder.Stage.{Stage}
 use Rattle.wasm_build.specs.declared.builder.Stage.TheVariants.{Preamble, Section, Entry, Body}
 use Rattle.wasm_build.specs.declared.sections.Entries.{Entries}
-use Rattle.build_entries.specs.BuildsSections.{SpelledFunc}
+use Rattle.wasm_build.specs.BuildsSections.{SpelledFunc}
 use Rattle.wasm_build.specs.BuildsEntries.{Item, SpelledItem, with_items}
 use Rattle.wasm_build.specs.BuildsModule.{State, state_of, SpelledSections}
 

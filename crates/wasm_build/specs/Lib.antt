@@ -1,5 +1,9 @@
-pub use Rattle.build_types.specs.declared.BuildFault
+pub mod Builds
+pub mod BuildsCode
 pub mod BuildsEntries
+pub mod BuildsLevels
 pub mod BuildsModule
 pub mod BuildsPieces
+pub mod BuildsPlain
+pub mod BuildsSections
 pub mod Extents

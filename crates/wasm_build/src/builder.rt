@@ -6,13 +6,14 @@ ghost use Rattle.wasm_build.specs.BuildsEntries.{IsOther};
 ghost use Rattle.wasm_build.specs.BuildsPieces.{Coming, Holds, Steps, Takes, stage_behind, stage_before};
 ghost use Rattle.wasm_build.specs.declared.builder.Stage as Stage;
 
+use crate::build_types::BuildFault;
+use crate::entries::{Body, CodeEntry};
+use crate::entry::Entry;
 use crate::extents::{number, sized_end};
 use crate::sections::{Entries, Sections};
-use build_entries::{Body, CodeEntry};
-use build_types::{BuildFault, Entry};
 use std::alloc::Global;
 use wa_types::{Func, Module};
-use wasm_cursor::Cursor;
+use wasm_grammar::Cursor;
 
 // So many bytes are read again for each piece; what takes more waits till there is as much more.
 const READ_AGAIN: usize = 64;

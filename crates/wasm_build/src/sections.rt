@@ -2,15 +2,18 @@
 
 ghost use Rattle.std.specs.Prelude.{◌≡◌, ◌≤◌, ◌<◌, length, OnOk, OnErr};
 ghost use Rattle.wa_types.specs.View.{module_of};
-ghost use Rattle.build_types.specs.Builds.{Builds};
+ghost use Rattle.wasm_build.specs.Builds.{Builds};
 ghost use Rattle.wasm_build.specs.BuildsEntries.{AreOf, SpelledEntry};
 ghost use Rattle.wasm_build.specs.BuildsModule.{state_of, nothing_yet, SpelledSingle, SpelledStart};
 
-use build_entries::{DataEntry, ElementEntry, ExportEntry, GlobalEntry, ImportEntry, custom};
-use build_types::{BuildFault, IndexEntry, MemoryEntry, TableEntry, TypeEntry, put};
+use crate::build_types::BuildFault;
+use crate::entries::{DataEntry, ElementEntry, GlobalEntry, custom};
+use crate::entry::put;
+use crate::imports::{ExportEntry, ImportEntry};
+use crate::types::{IndexEntry, MemoryEntry, TableEntry, TypeEntry};
 use std::alloc::Global;
 use wa_types::Module;
-use wasm_cursor::Cursor;
+use wasm_grammar::Cursor;
 
 /// What a section holds that is one vector (standard, sections 5.5.4 to 5.5.14). Bodies, whose types are known from elsewhere, are apart.
 #[derive(Clone, Copy, Drop)]

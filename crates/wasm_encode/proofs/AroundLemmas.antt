@@ -1,16 +1,16 @@
 -- A module around entries that were written beforehand.
-use Rattle.std.proofs.Common.{◌≡◌, ◌≢◌, ℕ, zero, suc, ◌+◌, ◌<◌, ◌≤◌, ◌^◌, List, [], ◌∷◌, ◌++◌, refl, ap, sym, ◌∙◌, arith, map, append_assoc, length, length-append}
+use Rattle.std.proofs.Common.{◌≡◌, ◌≢◌, ℕ, zero, suc, ◌+◌, ◌<◌, ◌≤◌, ◌^◌, List, [], ◌∷◌, ◌++◌, refl, ap, sym, ◌∙◌, subst, arith, map, add-one, append_assoc, length, length-append, inl, inr}
 use Rattle.std.specs.Prelude.{slice_index_or}
 use Rattle.std.specs.List.{flat_map}
 use Rattle.std.proofs.lemmas.Bool.{eq-eqb, ne_eqb, cases_eq}
-use Rattle.std.proofs.Common.{inl, inr}
 use Rattle.std.proofs.lemmas.List.{length-map}
-use Rattle.wa_types.specs.Leb.{shortest}
+use Rattle.leb_numbers.specs.Leb.{shortest}
 use Rattle.wa_types.specs.Syntax.{Func, Module}
 use Rattle.wa_types.specs.Encoding.{sized, section, start_section, customs_behind, func_type_bytes, import_bytes, table_bytes, limits_bytes, global_bytes, export_bytes, elem_bytes, segment_bytes, Enc}
 use Rattle.wasm_encode.specs.Modules.{known_section, places_from}
-use Rattle.wasm_encode.specs.Around.{code_entry, code_section, section_around, IsAround}
-use Rattle.wasm_encode.proofs.ModuleLemmas.{more_length}
+use Rattle.wasm_encode.specs.declared.held.CodeEntries.{CodeEntries}
+use Rattle.wasm_encode.specs.Around.{code_entry, code_entries, code_section, section_around, HoldsEntries, IsAround}
+use Rattle.wasm_encode.proofs.ModuleLemmas.{first_length, more_length}
 
 -- ---- the code section
 
@@ -36,7 +36,9 @@ code_put n entries old a b c new h ea eb ec en =
     ∙ ap (λ z. z ++ entries) (append_assoc (old ++ 10 ∷ []) size (shortest n)) ∙ append_assoc (old ++ 10 ∷ []) (size ++ shortest n) entries
     ∙ append_assoc old (10 ∷ []) (size ++ shortest n ++ entries) ∙ ap (λ z. old ++ 10 ∷ z) (sym same) ∙ ap (λ z. old ++ z) (sym (code_some n entries h))
 
-pub ruleset measuring = (code_none, code_length)
+-- what a count of entries is, where their section isn't too large to be counted
+pub counted : (n : ℕ) (v : CodeEntries) (entries : List ℕ) → n ≢ 0 → HoldsEntries v entries → length (code_section n entries) < 2 ^ 64 → v.len ≡ length entries
+counted n v entries h holds fits = omega (arith, code_length n entries h, fits, holds.len)
 
 pub ruleset putting = (code_none, code_length, code_put)
 
@@ -107,34 +109,55 @@ known_code : (p : Module) → known_section 10 p ≡ section 10 code_entry p.fun
 unfolding known_section
 known_code p = refl
 
+-- ---- a module's entries among all its bytes
+
+places_within : (p : Module) (id : ℕ) → id ≤ 12 → length (places_from id p) ≤ length (Enc p)
+places_within p zero le = let l = first_length p in omega (arith, l)
+places_within p (suc n) le =
+    let l = more_length p n (omega (arith, le)) in
+    let before = places_within p n (omega (arith, le)) in
+    subst (λ (k : ℕ). length (places_from k p) ≤ length (Enc p)) (add-one n) (omega (arith, l, before))
+
+in_section : (fs : List Func) → length (flat_map code_entry fs) ≤ length (code_section (length fs) (flat_map code_entry fs))
+in_section [] = omega arith
+in_section (f ∷ fs) = let l = code_length (length (f ∷ fs)) (flat_map code_entry (f ∷ fs)) (λ e. omega (arith, e)) in omega (arith, l)
+
+pub entries_within : (p : Module) → length (code_entries p) ≤ length (Enc p)
+entries_within p =
+    let known = ap length (known_code p ∙ section_of_code p.funcs) in
+    let here = in_section p.funcs in
+    let l = more_length p 10 (omega arith) in
+    let all = places_within p 10 (omega arith) in
+    omega (arith, known, here, l, all)
+
 -- ---- around entries
 
-module _ (m : Module) (entries : List ℕ) (p : Module) (a : IsAround m entries p) where
+module _ (m : Module) (p : Module) (a : IsAround m p) where
   same_count : length p.funcs ≡ length m.funcs
   same_count = sym (length-map p.funcs (λ (f : Func). f.sort)) ∙ ap length a.sorts ∙ length-map m.funcs (λ (f : Func). f.sort)
 
   -- each section is the other module's
-  pub section_is : (id : ℕ) → known_section id p ≡ section_around id m entries
+  pub section_is : (id : ℕ) → known_section id p ≡ section_around id m (code_entries p)
   section_is id = elim (cases_eq id 10) [
     | inl ten ↦
-        ap (λ k. known_section k p) ten ∙ known_code p ∙ section_of_code p.funcs ∙ ap (λ n. code_section n (flat_map code_entry p.funcs)) same_count
-        ∙ ap (code_section (length m.funcs)) (sym a.entries_are) ∙ sym (around_code id m entries ten)
+        ap (λ k. known_section k p) ten ∙ known_code p ∙ section_of_code p.funcs ∙ ap (λ n. code_section n (code_entries p)) same_count
+        ∙ sym (around_code id m (code_entries p) ten)
     | inr other ↦
-        ap (known_section id) (sym a.other_funcs) ∙ other_known m p.funcs id other a.sorts ∙ sym (around_known id m entries other)
+        ap (known_section id) (sym a.other_funcs) ∙ other_known m p.funcs id other a.sorts ∙ sym (around_known id m (code_entries p) other)
   ]
 
   pub customs_same : p.customs ≡ m.customs
   customs_same = ap (λ (q : Module). q.customs) (sym a.other_funcs)
 
   -- what is left to be written can be counted
-  pub place_fits : (id : ℕ) → id < 12 → length (places_from id p) ≤ length (Enc p) → length (section_around id m entries) < 2 ^ 64
+  pub place_fits : (id : ℕ) → id < 12 → length (places_from id p) ≤ length (Enc p) → length (section_around id m (code_entries p)) < 2 ^ 64
   place_fits id lt le = let s = ap length (section_is id) in let l = more_length p id lt in omega (arith, s, l, le, a.fits)
 
   pub customs_fit : (id : ℕ) → id < 12 → length (places_from id p) ≤ length (Enc p) → length (customs_behind id m.customs) < 2 ^ 64
   customs_fit id lt le = let k = ap (λ cs. length (customs_behind id cs)) customs_same in let l = more_length p id lt in omega (arith, k, l, le, a.fits)
 
   -- what was counted, with a place more
-  pub count_more : (id len place customs : ℕ) → id < 12 → place ≡ length (section_around id m entries) → customs ≡ length (customs_behind id m.customs)
+  pub count_more : (id len place customs : ℕ) → id < 12 → place ≡ length (section_around id m (code_entries p)) → customs ≡ length (customs_behind id m.customs)
       → len + length (places_from id p) ≡ length (Enc p)
       → len + (place + customs) + length (places_from (id + 1) p) ≡ length (Enc p)
   count_more id len place customs lt ep ec before =

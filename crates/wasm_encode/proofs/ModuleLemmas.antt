@@ -4,14 +4,14 @@ use Rattle.std.proofs.lemmas.List.{drop_all, get_or_default, get_or-map, length-
 use Rattle.std.specs.List.{flat_map, All}
 use Rattle.wa_types.specs.declared.syntax.Func.{Func as FuncValue}
 use Rattle.wa_types.specs.declared.syntax.Module.{Module as ModuleValue}
-use Rattle.wa_types.specs.Leb.{shortest}
+use Rattle.leb_numbers.specs.Leb.{shortest}
 use Rattle.wa_types.specs.Syntax.{Func, Custom, Module}
 use Rattle.wa_types.specs.View.{func_of, module_of}
 use Rattle.wa_types.specs.Encoding.{vector, sized, section, sections, body_bytes, customs_behind, with_customs, preamble, Enc}
-use Rattle.wasm_entries.specs.Locals.{local_count}
+use Rattle.wasm_encode.specs.Locals.{local_count}
 use Rattle.wasm_encode.specs.Modules.{FewLocals, known_section, places_from}
-use Rattle.wasm_entries.proofs.Vectors.{entry_le}
-use Rattle.wasm_entries.proofs.SectionLemmas.{section_length}
+use Rattle.wasm_encode.proofs.Vectors.{entry_le}
+use Rattle.wasm_encode.proofs.SectionLemmas.{section_length}
 
 -- the sections from the one at i on, in front of those after it
 step : (ss : List (List ℕ)) (cs : List Custom) (i : ℕ) → i < length ss → with_customs i (drop i ss) cs ≡ get_or ss i [] ++ customs_behind i cs ++ with_customs (i + 1) (drop (i + 1) ss) cs

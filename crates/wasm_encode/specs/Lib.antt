@@ -1,2 +1,4 @@
 pub mod Around
+pub mod Instrs
+pub mod Locals
 pub mod Modules

@@ -3,7 +3,7 @@ use Rattle.std.specs.Prelude.{◌<◌, ◌^◌, ℕ, List, [], ◌∷◌, drop, 
 use Rattle.std.specs.List.{All}
 use Rattle.wa_types.specs.Syntax.{Module}
 use Rattle.wa_types.specs.Encoding.{sections, with_customs}
-use Rattle.wasm_entries.specs.Locals.{local_count}
+use Rattle.wasm_encode.specs.Locals.{local_count}
 
 -- each function declares fewer than 2^32 locals
 abbrev pub FewLocals : Module → Type 0

@@ -1,20 +1,34 @@
-//! Modules as the bytes of a file.
+//! Writes modules as the bytes of a file (standard, section 5).
 //!
-//! `encode` writes every module in the one form that `Enc` of wa_types defines (standard, section 5): each
-//! number in its shortest spelling, known sections in rising id with those of no entries left out, adjacent
-//! runs of locals merged, and each custom section behind the known sections of the ids up to its place.
+//! `encode` writes every module in the one form that `Enc` of `wa_types` defines: each number in its shortest spelling, known
+//! sections in rising id with those of no entries left out, adjacent runs of locals merged, and each custom section behind the known
+//! sections of the ids up to its place.
 //!
-//! The law: the answer is exactly `Enc` of the module, or `TooLong` exactly where that passes 67,108,864
-//! bytes, or `Memory`. The length is computed first, without memory, so that nothing is written of a module
-//! that is too long, and every size stands in front of its content without a byte being moved. The work is
-//! linear in the module, and no recursion is deeper than its nesting.
+//! The law: the answer is exactly `Enc` of the module, or `TooLong` exactly where that passes 67,108,864 bytes, or `Memory`.
+//! `encode_around` has the same law; it writes a module around entries of the code section that were put beforehand (`CodeEntries`), so
+//! that its functions needn't be in memory together, and no more bytes than a module may have.
 //!
-//! `encode_around` writes a module around the entries of its code section, which were written beforehand, so that its functions
-//! needn't be in memory together; the law is the same.
+//! Whatever is written can be measured first, without memory: for each part its length and its bytes stand side by side, and the one
+//! is the length of the other. So nothing is written of a module that is too long, and every size stands in front of its content
+//! without a byte being moved. The work is linear in the module, and no recursion is deeper than its nesting. A module isn't
+//! checked: one that isn't valid is written too.
+//!
+//! - `numbers`, `entry`: numbers, sizes and names; how an entry of a vector is written, so that each vector is proved once.
+//! - `types`, `code`, `locals`: types, instructions and expressions, declared locals.
+//! - `entries`, `sections`, `held`: entries of the sections with code and data; sections, custom ones too; entries that are put beforehand.
+//! - `module`, `around`: whole modules.
 #![tactic(auto)]
 
 mod around;
+mod code;
+mod entries;
+mod entry;
+mod held;
+mod locals;
 mod module;
+mod numbers;
+mod sections;
+mod types;
 
 ghost use Rattle.std.specs.Prelude.{◌≡◌, ◌<◌, ◌≤◌, ◌^◌, ◌↔◌, length, IfOk, ℕ, Err};
 ghost use Rattle.wa_types.specs.View.{module_of};
@@ -24,6 +38,7 @@ ghost use Rattle.wasm_encode.specs.Modules.{FewLocals};
 use crate::module::{module_len, put_module};
 pub use around::encode_around;
 use bytes::BytesMut;
+pub use held::CodeEntries;
 use std::alloc::{AllocError, Global};
 use thiserror::Error;
 use wa_types::Module;

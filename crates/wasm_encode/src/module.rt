@@ -5,14 +5,14 @@ ghost use Rattle.wa_types.specs.View.{module_of, custom_of};
 ghost use Rattle.wa_types.specs.Encoding.{Enc};
 ghost use Rattle.wasm_encode.specs.Modules.{known_section, FewLocals};
 
+use crate::entries::{CodeEntry, DataEntry, ElementEntry, FunctionEntry, GlobalEntry};
+use crate::sections::{
+    LAST_ID, customs_len, put_customs, put_section, put_start, section_len, start_len,
+};
+use crate::types::{ExportEntry, ImportEntry, MemoryEntry, TableEntry, TypeEntry};
 use bytes::BytesMut;
 use std::alloc::AllocError;
 use wa_types::Module;
-use wasm_entries::{
-    CodeEntry, DataEntry, ElementEntry, ExportEntry, FunctionEntry, GlobalEntry, ImportEntry,
-    LAST_ID, MemoryEntry, TableEntry, TypeEntry, customs_len, put_customs, put_section, put_start,
-    section_len, start_len,
-};
 
 /// The magic number and the version (standard, section 5.5.15).
 pub(crate) const PREAMBLE: [u8; 8] = [0x00, 0x61, 0x73, 0x6D, 0x01, 0x00, 0x00, 0x00];

@@ -1,23 +1,20 @@
 -- Where the bytes of a file stop being begun.
-use Rattle.std.proofs.Common.{◌≡◌, ℕ, suc, zero, ◌+◌, ◌-◌, ◌<◌, ◌≤◌, inl, inr, List, [], ◌∷◌, ◌++◌, Option, Some, None, refl, ap, sym, ◌∙◌, subst, arith, add-zero, append-nil, length, take}
-use Rattle.std.proofs.Common.{drop, length-take-le, length-drop, Bool, true, false, MatchBool, max}
+use Rattle.std.proofs.Common.{◌≡◌, ℕ, suc, zero, ◌+◌, ◌-◌, ◌<◌, ◌≤◌, inl, inr, List, [], ◌∷◌, ◌++◌, Option, Some, None, refl, ap, sym, ◌∙◌, subst, arith, add-zero, append-nil, length, take, drop, length-take-le, length-drop, Bool, true, false, MatchBool, max}
 use Rattle.std.proofs.Math.Seq.{take-add, take-append_seam}
 use Rattle.std.proofs.lemmas.List.{take_all, drop-drop}
 use Rattle.std.proofs.lemmas.Bool.{cases_lt, ne_eqb}
 use Rattle.std.specs.Option.{unwrap_or}
-use Rattle.wa_types.specs.Begun.{Goal, rest, entries, signed, EntryKind, some_types, some_imports, some_functions, some_tables, some_memories, some_globals, some_exports, some_elements}
-use Rattle.wa_types.specs.Begun.{some_bodies, some_segments, some_value_types, some_runs, some_indices, some_bytes, first_of, wants, IsItem, IsPart, next, Steps, Leads, BegunFrom, part}
-use Rattle.wa_types.specs.Begun.{then, Inside, settled, start, Begun}
+use Rattle.wa_types.specs.Begun.{Goal, rest, entries, signed, EntryKind, some_types, some_imports, some_functions, some_tables, some_memories, some_globals, some_exports, some_elements, some_bodies, some_segments, some_value_types, some_runs, some_indices, some_bytes, first_of, wants, IsItem, IsPart, next, Steps, Leads, BegunFrom, part, then, Inside, settled, start, Begun}
 use Rattle.file_laws.proofs.Items.{item_front, part_front, item_some, item_whole, one_item}
 use Rattle.file_laws.proofs.Runs.{leads_on, leads_only, leads_more, inside_less, begun_front}
-use Rattle.wasm_goals.proofs.ItemFronts.{byte_whole}
-use Rattle.wasm_goals.specs.Items.{IsTold, IsWholeItem, IsWrong}
-use Rattle.wasm_goals.specs.Ends.{NoStep, IsReached}
+use Rattle.wasm_grammar.proofs.ItemFronts.{byte_whole}
+use Rattle.wasm_grammar.specs.Items.{IsTold, IsWholeItem, IsWrong}
+use Rattle.wasm_grammar.specs.Ends.{NoStep, IsReached}
 use Rattle.wa_types.specs.ModuleBounds.{ModuleBounds}
-use Rattle.wasm_marks.specs.declared.marks.Marks.{Marks}
-use Rattle.wasm_marks.specs.Showing.{shown, Noted, MarksAlong}
-use Rattle.wasm_marks.proofs.Noting.{noted_none}
-use Rattle.wasm_marks.proofs.Showings.{marks_more}
+use Rattle.file_laws.specs.declared.marks.Marks.{Marks}
+use Rattle.file_laws.specs.Showing.{shown, Noted, MarksAlong}
+use Rattle.file_laws.proofs.Noting.{noted_none}
+use Rattle.file_laws.proofs.Showings.{marks_more}
 use Rattle.wasm_grammar.specs.Machine.{Stands, StopsAt}
 
 -- the bytes between two places

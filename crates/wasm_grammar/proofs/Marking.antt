@@ -4,11 +4,11 @@ use Rattle.wa_types.specs.Begun.{Goal, some_value_types}
 use Rattle.wa_types.specs.Marks.{place_if}
 use Rattle.wa_types.specs.ModuleBounds.{ModuleBounds}
 use Rattle.wa_types.specs.Opcodes.{is_float_op}
-use Rattle.wasm_goals.specs.declared.goals.Goal.{Goal as Wanted}
-use Rattle.wasm_goals.specs.Goals.{goal_of, list_of}
-use Rattle.wasm_marks.specs.declared.marks.Marks.{Marks}
-use Rattle.wasm_marks.specs.Showing.{nothing_seen, floats_seen, opens_seen, parameters_seen, both, opens_level, await_results, op_shown, count_shown, Noted}
-use Rattle.wasm_marks.proofs.Noting.{noted_none, noted_both}
+use Rattle.wasm_grammar.specs.declared.goals.Goal.{Goal as Wanted}
+use Rattle.wasm_grammar.specs.Goals.{goal_of, list_of}
+use Rattle.file_laws.specs.declared.marks.Marks.{Marks}
+use Rattle.file_laws.specs.Showing.{nothing_seen, floats_seen, opens_seen, parameters_seen, both, opens_level, await_results, op_shown, count_shown, Noted}
+use Rattle.file_laws.proofs.Noting.{noted_none, noted_both}
 
 pub code_noted : (b : ModuleBounds) (op at level : ℕ) (l m n : Marks) (opens : Bool) → Noted b (floats_seen (place_if (is_float_op op) at)) l m → opens ≡ opens_level op
     → Noted b (opens_seen (place_if (opens && nat_le b.nesting level) at)) m n → Noted b (op_shown b level op at) l n

@@ -1,16 +1,15 @@
 -- Between two pieces of a file, and at its end.
-use Rattle.std.proofs.Common.{◌≡◌, ℕ, ◌+◌, ◌-◌, ◌<◌, ◌≤◌, inl, inr, List, [], ◌∷◌, ◌++◌, refl, ap, sym, ◌∙◌, subst, arith, append-nil, length, take, drop, length-append, length-take-le}
-use Rattle.std.proofs.Common.{length-drop, true, false, eqb-true}
+use Rattle.std.proofs.Common.{◌≡◌, ℕ, ◌+◌, ◌-◌, ◌<◌, ◌≤◌, inl, inr, List, [], ◌∷◌, ◌++◌, refl, ap, sym, ◌∙◌, subst, arith, append-nil, length, take, drop, length-append, length-take-le, length-drop, true, false, eqb-true}
 use Rattle.std.proofs.lemmas.List.{take_all, take-append-drop, take-append-le, drop_all}
 use Rattle.std.proofs.Math.Seq.{take-add}
 use Rattle.wa_types.specs.Begun.{Goal, sections, wants, IsPart, Leads, arrived, item, BegunFrom, ends, part, Inside, start, Begun, IsWhole, FaultAt}
 use Rattle.file_laws.proofs.Items.{item_some, item_whole}
 use Rattle.file_laws.proofs.Runs.{leads_on, leads_only, leads_through, begun_front}
-use Rattle.wasm_goals.specs.Ends.{owes_none, is_end}
+use Rattle.wasm_grammar.specs.Ends.{owes_none, is_end}
 use Rattle.wa_types.specs.ModuleBounds.{ModuleBounds}
-use Rattle.wasm_marks.specs.declared.marks.Marks.{Marks}
-use Rattle.wasm_marks.specs.Showing.{no_marks, MarksAlong}
-use Rattle.wasm_marks.proofs.Showings.{marks_begin}
+use Rattle.file_laws.specs.declared.marks.Marks.{Marks}
+use Rattle.file_laws.specs.Showing.{no_marks, MarksAlong}
+use Rattle.file_laws.proofs.Showings.{marks_begin}
 use Rattle.wasm_grammar.specs.Machine.{Stands, IsPartOf, Waits, StopsAt}
 
 place_at : (bytes : List ℕ) (at : ℕ) → at ≤ length bytes → 0 + length (take at bytes) ≡ at

@@ -1,24 +1,22 @@
 -- Short items, passed over at once.
-use Rattle.std.proofs.Common.{◌≡◌, ℕ, suc, zero, ◌+◌, ◌-◌, ◌*◌, ◌^◌, ◌<◌, ◌≤◌, inl, inr, List, [], ◌∷◌, ◌++◌, Option, Some, None, IfSome, Ok, refl, ap, sym, ◌∙◌, subst, arith, length, take}
-use Rattle.std.proofs.Common.{drop, get_or, Bool, true, false, nat_le}
+use Rattle.std.proofs.Common.{◌≡◌, ℕ, suc, zero, ◌+◌, ◌-◌, ◌*◌, ◌^◌, ◌<◌, ◌≤◌, inl, inr, List, [], ◌∷◌, ◌++◌, Option, Some, None, IfSome, Ok, refl, ap, sym, ◌∙◌, subst, arith, length, take, drop, get_or, Bool, true, false, nat_le}
 use Rattle.std.specs.Bool.{OnTrue}
 use Rattle.std.proofs.lemmas.List.{drop_more, append_assoc}
 use Rattle.std.proofs.lemmas.Bool.{le-ltb, cases_lt}
 use Rattle.std.proofs.Math.Pow.{pow_mono}
-use Rattle.wa_types.specs.Leb.{IsUnsigned, IsSigned, last_signed}
+use Rattle.leb_numbers.specs.Leb.{IsUnsigned, IsSigned, last_signed}
 use Rattle.wa_types.specs.Opcodes.{Form, no_immediate, an_index, an_access, a_constant, follows, is_block_type, is_float_op, is_float_type}
 use Rattle.wa_types.specs.Marks.{place_if}
 use Rattle.wa_types.specs.ModuleBounds.{ModuleBounds}
-use Rattle.wasm_marks.specs.declared.marks.Marks.{Marks}
-use Rattle.wasm_marks.specs.Showing.{nothing_seen, floats_seen, opens_seen, levels, shown, Noted}
-use Rattle.wasm_marks.proofs.Noting.{noted_none}
-use Rattle.wasm_marks.proofs.TellingCode.{opens_none}
-use Rattle.wa_types.specs.Begun.{Goal, code, block_type, value_type, number, signed, entries, EntryKind, some_runs, Item, a_byte, an_unsigned, a_signed, a_name, a_constant_of, wants, IsItem}
-use Rattle.wa_types.specs.Begun.{next, Inside, Steps, settled, immediates, where_true, and_then, others}
+use Rattle.file_laws.specs.declared.marks.Marks.{Marks}
+use Rattle.file_laws.specs.Showing.{nothing_seen, floats_seen, opens_seen, levels, shown, Noted}
+use Rattle.file_laws.proofs.Noting.{noted_none}
+use Rattle.file_laws.proofs.TellingCode.{opens_none}
+use Rattle.wa_types.specs.Begun.{Goal, code, block_type, value_type, number, signed, entries, EntryKind, some_runs, Item, a_byte, an_unsigned, a_signed, a_name, a_constant_of, wants, IsItem, next, Inside, Steps, settled, immediates, where_true, and_then, others}
 use Rattle.file_laws.proofs.CodeReads.{refuted, none_nest}
-use Rattle.wasm_cursor.proofs.LowNumbers.{low_signed}
-use Rattle.wasm_goals.specs.Items.{IsTold, IsWholeItem}
-use Rattle.wasm_goals.specs.Ends.{IsReached}
+use Rattle.wasm_grammar.proofs.LowNumbers.{low_signed}
+use Rattle.wasm_grammar.specs.Items.{IsTold, IsWholeItem}
+use Rattle.wasm_grammar.specs.Ends.{IsReached}
 use Rattle.wasm_grammar.specs.Machine.{Stands}
 use Rattle.wasm_grammar.specs.Passing.{IsShort, AreShort, Below, Passes, Opens, Closes, PassesEntries, IsEntryByte, PassesRuns, IsShortRun}
 use Rattle.wasm_grammar.proofs.Faults.{between, length_between, front_between, Ready, goes_on}

@@ -1,4 +1,8 @@
+pub mod Ends
+pub mod Forms
+pub mod Goals
+pub mod Input
+pub mod Items
 pub mod Machine
 pub mod Passing
-pub use Rattle.wasm_marks.specs.Found
-pub use Rattle.wasm_window.specs.Input
+pub mod Places

@@ -4,9 +4,9 @@ use Rattle.wa_types.specs.Begun.{Goal, IsPart, wants, Inside, Leads, start, Begu
 use Rattle.wa_types.specs.Binary.{Section}
 use Rattle.wa_types.specs.Spells.{Spells}
 use Rattle.wa_types.specs.ModuleBounds.{ModuleBounds}
-use Rattle.wasm_marks.specs.declared.marks.Marks.{Marks}
-use Rattle.wasm_marks.specs.Found.{MarksOf}
-use Rattle.wasm_marks.specs.Showing.{MarksAlong}
+use Rattle.file_laws.specs.declared.marks.Marks.{Marks}
+use Rattle.file_laws.specs.Found.{MarksOf}
+use Rattle.file_laws.specs.Showing.{MarksAlong}
 use Rattle.wasm_grammar.specs.declared.machine.CheckFault.{CheckFault}
 use Rattle.wasm_grammar.specs.declared.machine.CheckFault.TheVariants.{Memory, Malformed}
 

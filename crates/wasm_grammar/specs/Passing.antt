@@ -4,8 +4,8 @@ use Rattle.wa_types.specs.Opcodes.{is_value_type, is_float_type}
 use Rattle.wa_types.specs.Marks.{place_if}
 use Rattle.wa_types.specs.ModuleBounds.{ModuleBounds}
 use Rattle.wa_types.specs.Begun.{Goal, code, entries, EntryKind, some_runs, first_of, IsItem, Inside, entry}
-use Rattle.wasm_marks.specs.declared.marks.Marks.{Marks}
-use Rattle.wasm_marks.specs.Showing.{nothing_seen, opens_seen, levels, entry_shown, Noted}
+use Rattle.file_laws.specs.declared.marks.Marks.{Marks}
+use Rattle.file_laws.specs.Showing.{nothing_seen, opens_seen, levels, entry_shown, Noted}
 use Rattle.wasm_grammar.specs.Machine.{Stands}
 
 -- The bytes are at most so many, and the last one alone is below 128.

@@ -3,22 +3,23 @@
 ghost use Rattle.std.specs.Prelude.{◌≡◌, ℕ, Bool, List, Some, ◌∷◌, ◌<◌, ◌≤◌, ◌-◌, ◌++◌, length, take, drop, OnOk, IfOk, IfErr, MatchBool};
 ghost use Rattle.std.specs.Bool.{OnTrue};
 ghost use Rattle.wa_types.specs.Begun.{Begun, IsWhole, wants, Inside, code, entries, some_runs, Goal as Wanted};
-ghost use Rattle.wasm_goals.specs.Goals.{goal_of, kind_of};
-ghost use Rattle.wasm_goals.specs.Items.{FrontIs};
+ghost use Rattle.wasm_grammar.specs.Goals.{goal_of, kind_of};
+ghost use Rattle.wasm_grammar.specs.Items.{FrontIs};
 ghost use Rattle.wa_types.specs.ModuleBounds.{ModuleBounds};
-ghost use Rattle.wasm_marks.specs.declared.marks.Marks.{Marks as MarksValue};
+ghost use Rattle.file_laws.specs.declared.marks.Marks.{Marks as MarksValue};
 ghost use Rattle.wasm_grammar.specs.Machine.{Stands, Waits, IsFault, IsCause, AreMarks};
 ghost use Rattle.wasm_grammar.specs.Passing.{Below, Moves};
 
+use crate::goals::{EntryKind, Goal};
+use crate::items::{Front, read_item, wants};
 use crate::notes::note;
 use crate::short::{closes, opened, pass_short, short_entries, short_runs};
+use crate::stack::Goals;
+use crate::window::Window;
+use file_laws::Marks;
 use std::alloc::{AllocError, Global};
 use thiserror::Error;
 use wa_types::Bounds;
-use wasm_goals::stack::Goals;
-use wasm_goals::{EntryKind, Front, Goal, read_item, wants};
-use wasm_marks::Marks;
-use wasm_window::Window;
 
 /// Why bytes are no file.
 #[derive(Clone, Copy, Debug, PartialEq, Eq, Error)]

@@ -3,13 +3,13 @@
 ghost use Rattle.std.specs.Prelude.{◌≡◌, ◌∷◌, List, drop};
 ghost use Rattle.wa_types.specs.Begun.{some_value_types, Goal as Wanted};
 ghost use Rattle.wa_types.specs.ModuleBounds.{ModuleBounds};
-ghost use Rattle.wasm_goals.specs.Goals.{goal_of, kind_of, list_of};
-ghost use Rattle.wasm_marks.specs.Showing.{Noted, await_results, count_shown, counts_types, entry_shown, head_shown, import_shown, of_types, op_shown, opens_level, shown};
+ghost use Rattle.wasm_grammar.specs.Goals.{goal_of, kind_of, list_of};
+ghost use Rattle.file_laws.specs.Showing.{Noted, await_results, count_shown, counts_types, entry_shown, head_shown, import_shown, of_types, op_shown, opens_level, shown};
 
+use crate::goals::{EntryKind, Goal};
+use crate::stack::Goals;
+use file_laws::Marks;
 use wa_types::Bounds;
-use wasm_goals::stack::Goals;
-use wasm_goals::{EntryKind, Goal};
-use wasm_marks::Marks;
 
 /// Notes what an item of the first goal shows, of this value at this place.
 #[inline(always)]

@@ -3,12 +3,12 @@
 ghost use Rattle.std.specs.Prelude.{ℕ, true, false, ◌≡◌, ◌+◌, ◌-◌, ◌*◌, ◌<◌, ◌≤◌, length, take, drop, get_or, IfSome};
 ghost use Rattle.std.specs.Bool.{OnTrue};
 ghost use Rattle.wa_types.specs.Opcodes.{is_block_type, is_float_op, is_float_type, is_value_type};
-ghost use Rattle.wasm_goals.specs.Goals.{kind_of};
+ghost use Rattle.wasm_grammar.specs.Goals.{kind_of};
 ghost use Rattle.wasm_grammar.specs.Passing.{IsShort, AreShort, Passes, Opens, Closes, PassesEntries, IsEntryByte, PassesRuns, IsShortRun};
 
-use wasm_cursor::{ImmediateForm, immediate_form};
-use wasm_goals::EntryKind;
-use wasm_window::Window;
+use crate::goals::EntryKind;
+use crate::opcodes::{ImmediateForm, immediate_form};
+use crate::window::Window;
 
 // The place behind a number of at most four bytes, which isn't judged: all of its bits are within its width.
 #[inline(always)]

@@ -1,7 +1,5 @@
 -- A file goes on behind what has been read and built of it.
-use Rattle.std.proofs.Common.{◌≡◌, ℕ, ◌+◌, ◌≤◌, List, [], ◌++◌, Option, Some, None, Bool, true, Result, Ok, Err, refl, sym, ap, ◌∙◌, subst, arith, length, take, drop, length-append}
-use Rattle.std.proofs.Common.{length-take-le}
-use Rattle.std.proofs.Common.{append_assoc, append-nil, length-drop, ◌-◌}
+use Rattle.std.proofs.Common.{◌≡◌, ℕ, ◌+◌, ◌≤◌, List, [], ◌++◌, Option, Some, None, Bool, true, Result, Ok, Err, refl, sym, ap, ◌∙◌, subst, arith, length, take, drop, length-append, length-take-le, append_assoc, append-nil, length-drop, ◌-◌}
 use Rattle.std.specs.Bool.{OnTrue}
 use Rattle.std.specs.List.{copy_within}
 use Rattle.std.proofs.lemmas.List.{take-append-drop}
@@ -13,13 +11,13 @@ use Rattle.wa_types.specs.ModuleBounds.{ModuleBounds}
 use Rattle.wa_types.specs.Reading.{IsModule, SpellsModule}
 use Rattle.wa_types.specs.Syntax.{Module}
 use Rattle.wa_types.specs.View.{module_of}
-use Rattle.wasm_build.specs.BuildFault.{BuildFault}
-use Rattle.wasm_build.specs.BuildFault.TheVariants.{Memory, NotSpelled}
+use Rattle.wasm_build.specs.declared.build_types.BuildFault.{BuildFault}
+use Rattle.wasm_build.specs.declared.build_types.BuildFault.TheVariants.{Memory, NotSpelled}
 use Rattle.wasm_build.specs.declared.builder.Builder.{Builder}
 use Rattle.wasm_build.specs.BuildsModule.{GivesModule}
 use Rattle.wasm_build.specs.BuildsPieces.{Comes, Coming, Holds, Takes}
 use Rattle.wasm_build.proofs.PieceParts.{cut_at}
-use Rattle.wasm_grammar.proofs.Judged.{deep_stays}
+use Rattle.file_laws.proofs.Judged.{deep_stays}
 use Rattle.wasm_grammar.specs.Machine.{Stands, Waits}
 use Rattle.wasm_grammar.specs.declared.machine.Machine.{Machine}
 use Rattle.wasm_grammar.specs.Input.{Input, input_of}

@@ -1,5 +1,7 @@
 pub mod Accepting
+pub mod Fronts
 pub mod GoingOn
+pub mod Held
 pub mod LocalCounts
 pub mod ModulesMade
 pub mod OpcodesMade

@@ -3,6 +3,7 @@ use Rattle.std.proofs.Common.{◌≡◌, ℕ, ◌+◌, ◌≤◌, inl, inr, List
 use Rattle.std.proofs.Common.{arith, eqb-true, option_to_list, All}
 use Rattle.std.proofs.lemmas.Bool.{leb-true, leb-false, eqb-false}
 use Rattle.std.proofs.lemmas.List.Elements.{All-head, All-tail}
+use Rattle.std.specs.List.{AllZip}
 use Rattle.wa_types.specs.declared.values.ValType.{ValType}
 use Rattle.wa_types.specs.declared.values.ValType.TheVariants.{I32, I64}
 use Rattle.wa_types.specs.declared.syntax.ImportKind.{ImportKind}
@@ -15,7 +16,7 @@ use Rattle.wa_types.specs.Syntax.{Shape, a_block, a_loop, Code, done, plain, nes
 use Rattle.wa_types.specs.Binary.{Placed, RawCode, ended, otherwise, instr, nested, branched, RawType, RawKind, raw_func, raw_table, raw_memory, raw_global, RawImport, RawGlobal, RawElem}
 use Rattle.wa_types.specs.Binary.{RawRun, RawBody, RawSegment, Section, custom, types, imports, functions, tables, memories, globals, exports, start, elements, bodies, segments}
 use Rattle.wa_types.specs.Spells.{ValueType, FunctionType, CodeOf, ImportKindOf, ImportOf, GlobalOf, ElementOf, RunOf, BodyOf, SegmentOf, Rising, sorts_in, bodies_in, Spells}
-use Rattle.wa_types.specs.Reading.{IsCode, Each, IsValueType, IsFuncType, IsKind, IsImport, IsGlobal, IsElem, IsRun, IsBody, IsSegment, types_in, imports_in, tables_in, memories_in}
+use Rattle.wa_types.specs.Reading.{IsCode, IsValueType, IsFuncType, IsKind, IsImport, IsGlobal, IsElem, IsRun, IsBody, IsSegment, types_in, imports_in, tables_in, memories_in}
 use Rattle.wa_types.specs.Reading.{globals_in, exports_in, starts_in, elements_in, segments_in, customs_of, IsModule}
 use Rattle.wa_types.specs.Marks.{place_if, float_type, code_floats, type_floats, kind_floats, body_floats, section_floats, floats}
 use Rattle.wasm_reader.proofs.SpelledSizes.{Seen, seen_vector, held_seen, types_seen, imports_seen, globals_seen, elements_seen, bodies_seen, segments_seen}
@@ -51,7 +52,7 @@ held_clear g h w (s ∷ ss) e =
 
 -- each of some parts that are spelled and have no float is something
 each_made : {X Y : Type 0} (S : X → Type 0) (h : X → List ℕ) (R : X → Y → Type 0) → ((x : X) → S x → h x ≡ [] → (y : Y) × R x y) → (xs : List X) → All S xs → flat_map h xs ≡ []
-    → (ys : List Y) × Each R xs ys
+    → (ys : List Y) × AllZip R xs ys
 each_made S h R w [] s e = ([], tt)
 each_made S h R w (x ∷ xs) s e =
     let one = w x (All-head S x xs s) (front_clear (h x) (flat_map h xs) e) in
@@ -108,7 +109,7 @@ code_made (otherwise k arm) first_arm at a h e =
 code_made (instr op o rest) first_arm at a h e =
     let t = h.1 in
     let u = t.4 in
-    let p = plain_made op o h.0 (not_placed (is_float_op op.byte) op.place (front_clear (place_if (is_float_op op.byte) op.place) (code_floats rest) e)) in
+    let p = plain_made op o (at + length t.0) u.0 u.3 h.0 (not_placed (is_float_op op.byte) op.place (front_clear (place_if (is_float_op op.byte) op.place) (code_floats rest) e)) in
     let v = code_made rest first_arm (at + length t.0 + length u.0) u.1 u.4 (back_clear (place_if (is_float_op op.byte) op.place) (code_floats rest) e) in
     record { code = plain p.0 v.code; else_arm = v.else_arm; is_code = (p.1, v.is_code); alone = v.alone }
 code_made (nested op result body rest) first_arm at a h e =
@@ -203,7 +204,7 @@ body_made n sort x s e =
     (record { sort = sort; locals = ls.0; body = c.0 }, record { locals = ls.1; body = c.1 }, refl)
 
 funcs_made : (n : ℕ) (sorts : List ℕ) (xs : List RawBody) → length sorts ≡ length xs → All (Seen n BodyOf) xs → flat_map body_floats xs ≡ []
-    → (fs : List Func) × Each IsBody xs fs × (map (λ (f : Func). f.sort) fs ≡ sorts)
+    → (fs : List Func) × AllZip IsBody xs fs × (map (λ (f : Func). f.sort) fs ≡ sorts)
 funcs_made n [] [] l s e = ([], tt, refl)
 funcs_made n [] (x ∷ xs) l s e = absurd (omega (arith, l))
 funcs_made n (k ∷ ks) [] l s e = absurd (omega (arith, l))

@@ -1,13 +1,13 @@
 -- Each opcode that is no float's, with its operands, is an instruction.
-use Rattle.std.proofs.Common.{◌≡◌, ℕ, suc, ◌⊎◌, inl, inr, length, Option, Some, Bool, true, false, cond, ◌&&◌, ◌||◌, nat_eq, refl, ap, sym, ◌∙◌}
+use Rattle.std.proofs.Common.{◌≡◌, ℕ, suc, ◌⊎◌, inl, inr, List, [], ◌∷◌, length, Option, Some, None, Bool, true, false, cond, ◌&&◌, ◌||◌, nat_eq, refl, ap, sym, ◌∙◌}
 use Rattle.std.proofs.Common.{arith, eqb-true}
 use Rattle.wa_types.specs.declared.values.Value.TheVariants.{I32 as value_32, I64 as value_64}
-use Rattle.wa_types.specs.Operators.{last_numeric}
-use Rattle.wa_types.specs.Opcodes.{Form, no_immediate, a_zero, an_index, an_index_and_zero, an_access, some_labels, a_constant, a_float, follows, form, is_float_op, is_load_op, is_store_op}
-use Rattle.wa_types.specs.Binary.{Placed, Immediates, nothing, zero_byte, index, index_and_zero, access, labels, constant, float}
-use Rattle.wa_types.specs.Syntax.{nop, drop, select, const, num, global_get, global_set, load, store, memory_size, memory_grow, Plain, basic, local_get, local_set, local_tee, br, br_if}
+use Rattle.wa_types.specs.Opcodes.{Form, no_immediate, a_zero, an_index, an_index_and_zero, an_access, some_labels, a_bulk, a_constant, a_float, follows, form, is_float_op, is_load_op, is_store_op}
+use Rattle.wa_types.specs.Binary.{Placed, Immediates, nothing, zero_byte, index, index_and_zero, access, labels, constant, float, bulk}
+use Rattle.wa_types.specs.Syntax.{nop, drop, select, const, num, global_get, global_set, load, store, memory_size, memory_grow, memory_copy, memory_fill, Plain, basic, local_get, local_set, local_tee, br, br_if}
 use Rattle.wa_types.specs.Syntax.{br_table, return, unreachable, call, call_indirect}
 use Rattle.wa_types.specs.Reading.{HasKind, IsPlain}
+use Rattle.wa_types.specs.Spells.{ImmediatesOf}
 use Rattle.wa_types.specs.Opcodes.{plain_immediates, plain_opcode}
 use Rattle.wa_types.proofs.OperatorLemmas.{operator_at, operator_in}
 use Rattle.wa_types.proofs.Ranges.{all_from, passes}
@@ -31,7 +31,7 @@ either_of false b e f = e
 
 -- how many opcodes there are up to the last that something follows
 abbrev opcodes : ℕ
-opcodes = suc last_numeric
+opcodes = suc 0xFC
 
 -- the instruction of an opcode and operands
 plain_of : ℕ → Immediates → Plain
@@ -47,6 +47,7 @@ plain_of op (access align offset) = cond (is_load_op op) (basic (load op align o
 plain_of op (labels targets last) = br_table targets last
 plain_of op (constant bits n) = cond (nat_eq op 0x41) (basic (const (value_32 n))) (basic (const (value_64 n)))
 plain_of op (float bytes) = basic nop
+plain_of op (bulk n) = cond (nat_eq n 10) (basic memory_copy) (basic memory_fill)
 
 -- a test where this follows an opcode
 if_bare : Option Form → Bool → Bool
@@ -73,6 +74,10 @@ if_labels : Option Form → Bool → Bool
 if_labels (Some some_labels) t = t
 if_labels _ t = true
 
+if_bulk : Option Form → Bool → Bool
+if_bulk (Some a_bulk) t = t
+if_bulk _ t = true
+
 -- the tests on opcodes
 test_bare : ℕ → Bool
 test_bare op = if_bare (follows op) (is_float_op op || nat_eq op (plain_opcode (plain_of op nothing)))
@@ -91,6 +96,9 @@ test_access op = if_access (follows op) (is_float_op op || (is_load_op op || is_
 
 test_labels : ℕ → Bool
 test_labels op = if_labels (follows op) (nat_eq op 0x0E)
+
+test_bulk : ℕ → Bool
+test_bulk op = if_bulk (follows op) (nat_eq op 0xFC)
 
 all_bare : all_from test_bare 0 opcodes ≡ true
 unfolding all_from test_bare if_bare follows plain_of operator_at operator_in
@@ -115,6 +123,10 @@ all_access = refl
 all_labels : all_from test_labels 0 opcodes ≡ true
 unfolding all_from test_labels if_labels follows
 all_labels = refl
+
+all_bulk : all_from test_bulk 0 opcodes ≡ true
+unfolding all_from test_bulk if_bulk follows
+all_bulk = refl
 
 -- a constant of so many bits
 if_constant : Option Form → (ℕ → Bool) → Bool
@@ -189,6 +201,10 @@ labels_said : (o : Option Form) (t : Bool) → o ≡ Some some_labels → if_lab
 unfolding if_labels
 labels_said o t e h = rw e at h
 
+bulk_said : (o : Option Form) (t : Bool) → o ≡ Some a_bulk → if_bulk o t ≡ true → t ≡ true
+unfolding if_bulk
+bulk_said o t e h = rw e at h
+
 constant_said : (o : Option Form) (bits : ℕ) (t : ℕ → Bool) → o ≡ Some (a_constant bits) → if_constant o t ≡ true → t bits ≡ true
 unfolding if_constant
 constant_said o bits t e h = rw e at h
@@ -217,35 +233,47 @@ constant_is op bits n false b true true e f g h k = ((ap (λ z. constant z n) (e
 constant_is op bits n false b true false e f g h k = absurd (let w : false ≡ true = k in cc)
 constant_is op bits n false b false d e f g h k = absurd (let w : false ≡ true = k in cc)
 
--- An opcode that is no float's is an instruction with what follows it.
-pub plain_made : (op : Placed) (o : Immediates) → follows op.byte ≡ Some (form o) → is_float_op op.byte ≡ false → (p : Plain) × IsPlain op o p
-unfolding plain_of FitsWith test_bare test_zero test_index test_index_zero test_access test_labels test_constant test_float
-plain_made op nothing e f =
+-- a number that zero bytes stand behind is a copy's or a fill's
+bulk_is : (op n : ℕ) (a b : Bool) (zs : List ℕ) → nat_eq n 10 ≡ a → nat_eq n 11 ≡ b → cond a (Some (0x00 ∷ 0x00 ∷ [])) (cond b (Some (0x00 ∷ [])) None) ≡ Some zs → op ≡ 0xFC
+    → FitsWith (bulk n) (cond a (basic memory_copy) (basic memory_fill)) × (op ≡ plain_opcode (cond a (basic memory_copy) (basic memory_fill)))
+unfolding FitsWith
+bulk_is op n true b zs e f g h = ((ap bulk (eqb-true n 10 e), tt), h)
+bulk_is op n false true zs e f g h = ((ap bulk (eqb-true n 11 f), tt), h)
+bulk_is op n false false zs e f g h = absurd (let k : None ≡ Some zs = g in cc)
+
+-- An opcode that is no float's is an instruction with what is spelled behind it.
+pub plain_made : (op : Placed) (o : Immediates) (at : ℕ) (a : List ℕ) → ImmediatesOf o at a → follows op.byte ≡ Some (form o) → is_float_op op.byte ≡ false → (p : Plain) × IsPlain op o p
+unfolding plain_of FitsWith test_bare test_zero test_index test_index_zero test_access test_labels test_bulk test_constant test_float
+plain_made op nothing at a h e f =
     let t = bare_said (follows op.byte) _ e (passes test_bare 0 opcodes op.byte (omega arith) (known_low op.byte no_immediate e) all_bare) in
     let k = bare_fits op.byte in
     (plain_of op.byte nothing, record { opcode = eqb-true op.byte _ (either_of _ _ t f); follows = k.0; kind = k.1 })
-plain_made op zero_byte e f =
+plain_made op zero_byte at a h e f =
     let t = zero_said (follows op.byte) _ e (passes test_zero 0 opcodes op.byte (omega arith) (known_low op.byte a_zero e) all_zero) in
     let k = zero_fits op.byte in
     (plain_of op.byte zero_byte, record { opcode = eqb-true op.byte _ t; follows = k.0; kind = k.1 })
-plain_made op (index x) e f =
+plain_made op (index x) at a h e f =
     let t = index_said (follows op.byte) _ e (passes (test_index x) 0 opcodes op.byte (omega arith) (known_low op.byte an_index e) (all_index x)) in
     let k = index_fits op.byte x in
     (plain_of op.byte (index x), record { opcode = eqb-true op.byte _ t; follows = k.0; kind = k.1 })
-plain_made op (index_and_zero x) e f =
+plain_made op (index_and_zero x) at a h e f =
     let t = index_zero_said (follows op.byte) _ e (passes test_index_zero 0 opcodes op.byte (omega arith) (known_low op.byte an_index_and_zero e) all_index_zero) in
     (call_indirect x, record { opcode = eqb-true op.byte 0x11 t; follows = refl; kind = tt })
-plain_made op (access align offset) e f =
+plain_made op (access align offset) at a h e f =
     let t = access_said (follows op.byte) _ e (passes test_access 0 opcodes op.byte (omega arith) (known_low op.byte an_access e) all_access) in
     let k = access_is op.byte align offset (is_load_op op.byte) (is_store_op op.byte) refl refl (either_of _ _ t f) in
     (cond (is_load_op op.byte) (basic (load op.byte align offset)) (basic (store op.byte align offset)), record { opcode = k.1; follows = k.0.0; kind = k.0.1 })
-plain_made op (labels targets last) e f =
+plain_made op (labels targets last) at a h e f =
     let t = labels_said (follows op.byte) _ e (passes test_labels 0 opcodes op.byte (omega arith) (known_low op.byte some_labels e) all_labels) in
     (br_table targets last, record { opcode = eqb-true op.byte 0x0E t; follows = refl; kind = tt })
-plain_made op (constant bits n) e f =
+plain_made op (constant bits n) at a h e f =
     let t = constant_said (follows op.byte) bits _ e (passes test_constant 0 opcodes op.byte (omega arith) (known_low op.byte (a_constant bits) e) all_constant) in
     let k = constant_is op.byte bits n (nat_eq op.byte 0x41) (nat_eq bits 32) (nat_eq op.byte 0x42) (nat_eq bits 64) refl refl refl refl t in
     (cond (nat_eq op.byte 0x41) (basic (const (value_32 n))) (basic (const (value_64 n))), record { opcode = k.1; follows = k.0.0; kind = k.0.1 })
-plain_made op (float bytes) e f =
+plain_made op (float bytes) at a h e f =
     let t = float_said (follows op.byte) (length bytes) _ e (passes test_float 0 opcodes op.byte (omega arith) (known_low op.byte (a_float (length bytes)) e) all_float) in
     absurd (let g : true ≡ false = sym t ∙ f in cc)
+plain_made op (bulk n) at a h e f =
+    let t = bulk_said (follows op.byte) _ e (passes test_bulk 0 opcodes op.byte (omega arith) (known_low op.byte a_bulk e) all_bulk) in
+    let k = bulk_is op.byte n (nat_eq n 10) (nat_eq n 11) h.1 refl refl h.4 (eqb-true op.byte 0xFC t) in
+    (cond (nat_eq n 10) (basic memory_copy) (basic memory_fill), record { opcode = k.1; follows = k.0.0; kind = k.0.1 })

@@ -1,14 +1,14 @@
 -- No spelling of code is shorter than the one that it is written in.
-use Rattle.std.proofs.Common.{◌≡◌, ℕ, suc, ◌+◌, ◌≤◌, List, [], ◌∷◌, ◌++◌, flat_map, length, refl, ap, sym, subst, arith, length-append, Bool, true, false}
-use Rattle.wa_types.proofs.SignedSpelling.{shortest_signed_least}
+use Rattle.std.proofs.Common.{◌≡◌, ℕ, suc, ◌+◌, ◌≤◌, List, [], ◌∷◌, ◌++◌, flat_map, length, refl, ap, sym, subst, arith, length-append, Bool, true, false, Some}
+use Rattle.std.specs.List.{AllZip}
+use Rattle.leb_numbers.proofs.SignedSpelling.{shortest_signed_least}
 use Rattle.wa_types.specs.declared.values.Value.TheVariants.{I32 as value_32, I64 as value_64}
-use Rattle.wa_types.specs.Leb.{shortest}
+use Rattle.leb_numbers.specs.Leb.{shortest}
 use Rattle.wa_types.specs.Encoding.{vector, sized, code_bytes, plain_bytes, else_bytes, expression_bytes}
-use Rattle.wa_types.specs.Syntax.{nop, drop, select, const, num, global_get, global_set, load, store, memory_size, memory_grow, Plain, basic, local_get, local_set, local_tee, br, br_if}
-use Rattle.wa_types.specs.Syntax.{br_table, return, unreachable, call, call_indirect, Code, done, plain, nest, branch}
+use Rattle.wa_types.specs.Syntax.{nop, drop, select, const, num, global_get, global_set, load, store, memory_size, memory_grow, memory_copy, memory_fill, Plain, basic, local_get, local_set, local_tee, br, br_if, br_table, return, unreachable, call, call_indirect, Code, done, plain, nest, branch}
 use Rattle.wa_types.specs.Binary.{RawCode, ended, otherwise, instr, nested, branched}
 use Rattle.wa_types.specs.Spells.{Number, Items, Vector, ImmediatesOf, CodeOf}
-use Rattle.wa_types.specs.Reading.{IsCode, Each}
+use Rattle.wa_types.specs.Reading.{IsCode}
 use Rattle.wa_types.specs.Opcodes.{plain_immediates}
 use Rattle.wasm_reader.proofs.ShortNumbers.{number_short, shortest_rises}
 use Rattle.wasm_reader.proofs.SpelledCodeSizes.{length_split}
@@ -16,7 +16,7 @@ use Rattle.wasm_reader.proofs.SpelledSizes.{each_length}
 
 -- items that are each no shorter
 pub items_short : {X Y : Type 0} (f : X → ℕ → List ℕ → Type 0) (entry : Y → List ℕ) (R : X → Y → Type 0) → ((x : X) (y : Y) (at : ℕ) (a : List ℕ) → f x at a → R x y → length (entry y) ≤ length a)
-    → (xs : List X) (ys : List Y) (at : ℕ) (a : List ℕ) → Items f xs at a → Each R xs ys → length (flat_map entry ys) ≤ length a
+    → (xs : List X) (ys : List Y) (at : ℕ) (a : List ℕ) → Items f xs at a → AllZip R xs ys → length (flat_map entry ys) ≤ length a
 items_short f entry R w [] [] at a h e = omega arith
 items_short f entry R w [] (y ∷ ys) at a h e = absurd e
 items_short f entry R w (x ∷ xs) [] at a h e = absurd e
@@ -24,7 +24,7 @@ items_short f entry R w (x ∷ xs) (y ∷ ys) at a h e =
     omega (arith, length_split a h.0 h.1 h.2, length-append (entry y) (flat_map entry ys), w x y at h.0 h.3 e.0, items_short f entry R w xs ys (at + length h.0) h.1 h.4 e.1)
 
 pub vector_short : {X Y : Type 0} (f : X → ℕ → List ℕ → Type 0) (entry : Y → List ℕ) (R : X → Y → Type 0) → ((x : X) (y : Y) (at : ℕ) (a : List ℕ) → f x at a → R x y → length (entry y) ≤ length a)
-    → (xs : List X) (ys : List Y) (at : ℕ) (a : List ℕ) → Vector f xs at a → Each R xs ys → length (vector entry ys) ≤ length a
+    → (xs : List X) (ys : List Y) (at : ℕ) (a : List ℕ) → Vector f xs at a → AllZip R xs ys → length (vector entry ys) ≤ length a
 vector_short f entry R w xs ys at a h e =
     omega (
       arith,
@@ -39,7 +39,7 @@ vector_short f entry R w xs ys at a h e =
 abbrev pub Same : {X : Type 0} → X → X → Type 0
 Same x y = y ≡ x
 
-pub each_same : {X : Type 0} (xs : List X) → Each Same xs xs
+pub each_same : {X : Type 0} (xs : List X) → AllZip Same xs xs
 each_same [] = tt
 each_same (x ∷ xs) = (refl, each_same xs)
 
@@ -53,6 +53,9 @@ indices_short xs at a h = vector_short Number shortest Same index_short xs xs at
 pub sized_short : (bytes : List ℕ) (size : ℕ) (a b c : List ℕ) → a ≡ b ++ c → Number size 0 b → length c ≡ size → length bytes ≤ size → length (sized bytes) ≤ length a
 sized_short bytes size a b c e n l k =
     omega (arith, length_split a b c e, length-append (shortest (length bytes)) bytes, number_short size b n, shortest_rises (length bytes) size k, l, k)
+
+some_bytes : (zs ys : List ℕ) → Some zs ≡ Some ys → zs ≡ ys
+some_bytes zs ys e = cc
 
 operands_short : (p : Plain) (at : ℕ) (a : List ℕ) → ImmediatesOf (plain_immediates p) at a → length (plain_bytes p) ≤ suc (length a)
 operands_short (basic nop) at a h = omega arith
@@ -79,6 +82,12 @@ operands_short (basic (store op align offset)) at a h = omega (
 )
 operands_short (basic memory_size) at a h = omega (arith, ap length h)
 operands_short (basic memory_grow) at a h = omega (arith, ap length h)
+operands_short (basic memory_copy) at a h =
+    let zeros : 0x00 ∷ 0x00 ∷ [] ≡ h.1 = some_bytes (0x00 ∷ 0x00 ∷ []) h.1 h.4 in
+    omega (arith, length_split a h.0 h.1 h.2, length-append (shortest 10) (0x00 ∷ 0x00 ∷ []), number_short 10 h.0 h.3, ap length zeros)
+operands_short (basic memory_fill) at a h =
+    let zeros : 0x00 ∷ [] ≡ h.1 = some_bytes (0x00 ∷ []) h.1 h.4 in
+    omega (arith, length_split a h.0 h.1 h.2, length-append (shortest 11) (0x00 ∷ []), number_short 11 h.0 h.3, ap length zeros)
 operands_short (local_get x) at a h = omega (arith, number_short x a h)
 operands_short (local_set x) at a h = omega (arith, number_short x a h)
 operands_short (local_tee x) at a h = omega (arith, number_short x a h)

@@ -1,20 +1,19 @@
 -- No spelling of an entry is shorter than the one that it is written in.
-use Rattle.std.proofs.Common.{◌≡◌, ℕ, zero, suc, ◌+◌, ◌*◌, ◌/◌, ◌≤◌, inl, inr, List, [], ◌∷◌, ◌++◌, flat_map, length, Option, Some, None, refl, ap, sym, subst, arith, length-append, Bool}
-use Rattle.std.proofs.Common.{true, false, cond, nat_eq, nat_lt}
+use Rattle.std.proofs.Common.{◌≡◌, ℕ, zero, suc, ◌+◌, ◌*◌, ◌/◌, ◌≤◌, inl, inr, List, [], ◌∷◌, ◌++◌, flat_map, length, Option, Some, None, refl, ap, sym, subst, arith, length-append, Bool, true, false, cond, nat_eq, nat_lt}
 use Rattle.std.proofs.lemmas.Bool.{ltb-true, ltb-false}
+use Rattle.std.specs.List.{AllZip}
 use Rattle.wa_types.specs.declared.values.ValType.{ValType}
 use Rattle.wa_types.specs.declared.syntax.Limits.{Limits}
 use Rattle.wa_types.specs.declared.syntax.ImportKind.{ImportKind}
 use Rattle.wa_types.specs.declared.syntax.Import.{Import}
 use Rattle.wa_types.specs.declared.syntax.Export.{Export}
 use Rattle.wa_types.specs.declared.syntax.Run.{Run}
-use Rattle.wa_types.specs.Leb.{spelled, shortest}
-use Rattle.wa_types.specs.Encoding.{vector, sized, name_bytes, type_byte, func_type_bytes, max_bytes, limits_bytes, table_bytes, global_type_bytes, expression_bytes, same_type, run_onto}
-use Rattle.wa_types.specs.Encoding.{merged, run_bytes, body_bytes, import_kind_bytes, import_bytes, global_bytes, space_byte, export_bytes, elem_bytes, segment_bytes}
+use Rattle.leb_numbers.specs.Leb.{spelled, shortest}
+use Rattle.wa_types.specs.Encoding.{vector, sized, type_byte, func_type_bytes, max_bytes, limits_bytes, table_bytes, global_type_bytes, expression_bytes, same_type, run_onto, merged, run_bytes, body_bytes, import_kind_bytes, import_bytes, global_bytes, space_byte, export_bytes, elem_bytes, segment_bytes}
 use Rattle.wa_types.specs.Syntax.{FuncType, Func, GlobalDef, Elem, Segment}
 use Rattle.wa_types.specs.Binary.{Placed, RawType, RawKind, raw_func, raw_table, raw_memory, raw_global, RawImport, RawGlobal, RawElem, RawRun, RawBody, RawSegment}
 use Rattle.wa_types.specs.Spells.{Text, Vector, ValueType, FunctionType, Maximum, LimitsOf, TableType, ImportKindOf, ImportOf, GlobalOf, ExportOf, ElementOf, RunOf, BodyOf, SegmentOf}
-use Rattle.wa_types.specs.Reading.{Each, IsValueType, IsFuncType, IsKind, IsImport, IsGlobal, IsElem, IsRun, IsBody, IsSegment}
+use Rattle.wa_types.specs.Reading.{IsValueType, IsFuncType, IsKind, IsImport, IsGlobal, IsElem, IsRun, IsBody, IsSegment}
 use Rattle.wasm_reader.proofs.ShortNumbers.{by_test, number_short, shortest_rises, spelled_small, spelled_big, spelled_some}
 use Rattle.wasm_reader.proofs.ShortCode.{vector_short, items_short, Same, indices_short, sized_short, expression_short}
 use Rattle.wasm_reader.proofs.SpelledCodeSizes.{length_split}
@@ -51,7 +50,7 @@ table_short x y at a h e = omega (arith, length_split a h.0 h.1 h.2, ap length h
 same_limits : (x : Limits) → Same x x
 same_limits x = refl
 
-pub text_short : (n : List ℕ) (at : ℕ) (a : List ℕ) → Text n at a → length (name_bytes n) ≤ length a
+pub text_short : (n : List ℕ) (at : ℕ) (a : List ℕ) → Text n at a → length (sized n) ≤ length a
 text_short n at a h = omega (arith, length_split a h.0 h.1 h.2, length-append (shortest (length n)) n, number_short (length n) h.0 h.3, ap length h.4.0)
 
 kind_short : (x : RawKind) (k : ImportKind) (at : ℕ) (a : List ℕ) → ImportKindOf x at a → IsKind x k → length (import_kind_bytes k) ≤ length a
@@ -71,10 +70,10 @@ import_short x y at a h i =
       arith,
       length_split a h.0 h.1 h.2,
       length_split h.1 g.0 g.1 g.2,
-      length-append (name_bytes y.«module» ++ name_bytes y.base) (import_kind_bytes y.kind),
-      length-append (name_bytes y.«module») (name_bytes y.base),
-      ap (λ z. length (name_bytes z)) i.module_name,
-      ap (λ z. length (name_bytes z)) i.base,
+      length-append (sized y.«module» ++ sized y.base) (import_kind_bytes y.kind),
+      length-append (sized y.«module») (sized y.base),
+      ap (λ z. length (sized z)) i.module_name,
+      ap (λ z. length (sized z)) i.base,
       text_short x.module_name at h.0 h.3,
       text_short x.base (at + length h.0) g.0 g.3,
       kind_short x.kind y.kind (at + length h.0 + length g.0) g.1 g.4 i.kind,
@@ -102,7 +101,7 @@ export_short x y at a h e =
       length_split a h.0 h.1 h.2,
       length_split h.1 g.0 g.1 g.2,
       ap length g.3,
-      length-append (name_bytes x.name) (space_byte x.space ∷ shortest x.index),
+      length-append (sized x.name) (space_byte x.space ∷ shortest x.index),
       text_short x.name at h.0 h.3,
       number_short x.index g.1 g.4,
     ))
@@ -209,7 +208,7 @@ run_short : (x : RawRun) (y : Run) (at : ℕ) (a : List ℕ) → RunOf x at a �
 run_short x y at a h i = omega (arith, length_split a h.0 h.1 h.2, run_length y, ap (λ n. length (shortest n)) i.count, number_short x.count h.0 h.3, ap length h.4.1.1)
 
 -- runs are merged, and then no longer
-locals_short : (xs : List RawRun) (ys : List Run) (at : ℕ) (a : List ℕ) → Vector RunOf xs at a → Each IsRun xs ys → length (vector run_bytes (merged ys)) ≤ length a
+locals_short : (xs : List RawRun) (ys : List Run) (at : ℕ) (a : List ℕ) → Vector RunOf xs at a → AllZip IsRun xs ys → length (vector run_bytes (merged ys)) ≤ length a
 unfolding runs_length
 locals_short xs ys at a h e =
     let m = merged_short ys in

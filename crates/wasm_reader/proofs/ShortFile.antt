@@ -1,19 +1,16 @@
 -- No spelling of a file is shorter than the one that its module is written in.
-use Rattle.std.proofs.Common.{◌≡◌, ℕ, zero, suc, ◌+◌, ◌<◌, ◌≤◌, ◌⊎◌, inl, inr, List, [], ◌∷◌, ◌++◌, map, flat_map, length, min, Option, Some, None, option_to_list, refl, ap, sym, subst}
-use Rattle.std.proofs.Common.{arith, length-append, Bool, true, false, cond, nat_eq, eqb-true, filter}
+use Rattle.std.proofs.Common.{◌≡◌, ℕ, zero, suc, ◌+◌, ◌<◌, ◌≤◌, ◌⊎◌, inl, inr, List, [], ◌∷◌, ◌++◌, map, flat_map, length, min, Option, Some, None, option_to_list, refl, ap, sym, subst, arith, length-append, Bool, true, false, cond, nat_eq, eqb-true, filter}
 use Rattle.std.proofs.lemmas.Bool.{ne_eqb, eqb-false}
+use Rattle.std.specs.List.{AllZip}
 use Rattle.wa_types.specs.declared.syntax.Limits.{Limits}
 use Rattle.wa_types.specs.declared.syntax.Import.{Import}
 use Rattle.wa_types.specs.declared.syntax.Export.{Export}
-use Rattle.wa_types.specs.Leb.{shortest}
-use Rattle.wa_types.specs.Encoding.{Enc, vector, sized, name_bytes, func_type_bytes, limits_bytes, table_bytes, body_bytes, import_bytes, global_bytes, export_bytes, elem_bytes}
-use Rattle.wa_types.specs.Encoding.{segment_bytes, section, start_section, custom_bytes, customs_behind, preamble, sections, with_customs}
+use Rattle.leb_numbers.specs.Leb.{shortest}
+use Rattle.wa_types.specs.Encoding.{Enc, vector, sized, func_type_bytes, limits_bytes, table_bytes, body_bytes, import_bytes, global_bytes, export_bytes, elem_bytes, segment_bytes, section, start_section, custom_bytes, customs_behind, preamble, sections, with_customs}
 use Rattle.wa_types.specs.Syntax.{FuncType, Func, GlobalDef, Elem, Segment, Custom, Module}
 use Rattle.wa_types.specs.Binary.{Section, custom, types, imports, functions, tables, memories, globals, exports, start, elements, bodies, segments, section_id}
-use Rattle.wa_types.specs.Spells.{◌▸◌, Exactly, Number, Items, Vector, Sized, FunctionType, LimitsOf, TableType, ImportOf, GlobalOf, ExportOf, ElementOf, BodyOf, SegmentOf, SectionOf}
-use Rattle.wa_types.specs.Spells.{Rising, sorts_in, bodies_in}
-use Rattle.wa_types.specs.Reading.{Each, IsFuncType, IsImport, IsGlobal, IsElem, IsBody, IsSegment, types_in, imports_in, tables_in, memories_in, globals_in, exports_in, starts_in}
-use Rattle.wa_types.specs.Reading.{elements_in, segments_in, customs_of, SpellsModule}
+use Rattle.wa_types.specs.Spells.{◌▸◌, Exactly, Number, Items, Vector, Sized, FunctionType, LimitsOf, TableType, ImportOf, GlobalOf, ExportOf, ElementOf, BodyOf, SegmentOf, SectionOf, Rising, sorts_in, bodies_in}
+use Rattle.wa_types.specs.Reading.{IsFuncType, IsImport, IsGlobal, IsElem, IsBody, IsSegment, types_in, imports_in, tables_in, memories_in, globals_in, exports_in, starts_in, elements_in, segments_in, customs_of, SpellsModule}
 use Rattle.wasm_reader.proofs.ModulesMade.{join_clear}
 use Rattle.wasm_reader.proofs.ShortNumbers.{by_test, number_short}
 use Rattle.wasm_reader.proofs.ShortCode.{vector_short, Same, each_same, index_short, sized_short}
@@ -22,7 +19,7 @@ use Rattle.wasm_reader.proofs.SpelledCodeSizes.{length_split}
 
 -- what a section of entries takes
 section_short : {X Y : Type 0} (f : X → ℕ → List ℕ → Type 0) (entry : Y → List ℕ) (R : X → Y → Type 0) → ((x : X) (y : Y) (at : ℕ) (a : List ℕ) → f x at a → R x y → length (entry y) ≤ length a)
-    → (xs : List X) (ys : List Y) (id at : ℕ) (a : List ℕ) → (Exactly (id ∷ []) ▸ Sized (Vector f xs)) at a → Each R xs ys → length (section id entry ys) ≤ length a
+    → (xs : List X) (ys : List Y) (id at : ℕ) (a : List ℕ) → (Exactly (id ∷ []) ▸ Sized (Vector f xs)) at a → AllZip R xs ys → length (section id entry ys) ≤ length a
 section_short f entry R w xs [] id at a h e = omega arith
 section_short f entry R w xs (y ∷ ys) id at a h e =
     let z = h.4.1 in
@@ -74,11 +71,11 @@ pub record IsKind {X Y : Type 0} (g : Section → List X) (id : ℕ) (R : X → 
   one : 1 ≤ id
   nothing : bytes [] ≡ []
   other : (s : Section) → (section_id s ≡ id → ⊥) → g s ≡ []
-  written : (s : Section) (at : ℕ) (a : List ℕ) (ys : List Y) → SectionOf s at a → Each R (g s) ys → length (bytes ys) ≤ length a
+  written : (s : Section) (at : ℕ) (a : List ℕ) (ys : List Y) → SectionOf s at a → AllZip R (g s) ys → length (bytes ys) ≤ length a
 
 -- what is written of a kind takes no more than the section of that kind
 kind_short : {X Y : Type 0} (g : Section → List X) (id : ℕ) (R : X → Y → Type 0) (bytes : List Y → List ℕ) → IsKind g id R bytes
-    → (last : ℕ) (ss : List Section) (at : ℕ) (a : List ℕ) (h : Items SectionOf ss at a) (ys : List Y) → Rising last ss → Each R (flat_map g ss) ys → length (bytes ys) ≤ lengths_of id ss at a h
+    → (last : ℕ) (ss : List Section) (at : ℕ) (a : List ℕ) (h : Items SectionOf ss at a) (ys : List Y) → Rising last ss → AllZip R (flat_map g ss) ys → length (bytes ys) ≤ lengths_of id ss at a h
 unfolding lengths_of
 kind_short g id R bytes k last [] at a h [] r e = omega (arith, ap length k.nothing)
 kind_short g id R bytes k last [] at a h (y ∷ ys) r e = absurd e
@@ -89,11 +86,11 @@ kind_short g id R bytes k last (s ∷ ss) at a h ys r e = elim (by_test (nat_eq 
         | inl c ↦ absurd (omega (arith, k.one, same, c.0))
         | inr n ↦ none_later g id k.one k.other (section_id s) ss (omega (arith, same)) n.1
       ] in
-      let w = k.written s at h.0 ys h.3 (subst (λ z. Each R z ys) (alone (g s) (flat_map g ss) none) e) in
+      let w = k.written s at h.0 ys h.3 (subst (λ z. AllZip R z ys) (alone (g s) (flat_map g ss) none) e) in
       omega (arith, w, ap (λ t. cond t (length h.0) 0) found)
   | inr past ↦
       let n = onward last s ss r in
-      omega (arith, kind_short g id R bytes k n.0 ss (at + length h.0) h.1 h.4 ys n.1 (subst (λ z. Each R z ys) (without (g s) (flat_map g ss) (k.other s (eqb-false (section_id s) id past))) e))
+      omega (arith, kind_short g id R bytes k n.0 ss (at + length h.0) h.1 h.4 ys n.1 (subst (λ z. AllZip R z ys) (without (g s) (flat_map g ss) (k.other s (eqb-false (section_id s) id past))) e))
 ]
 
 -- the kinds
@@ -101,7 +98,7 @@ types_other : (s : Section) → (section_id s ≡ 1 → ⊥) → types_in s ≡ 
 types_other (types xs) n = absurd (n refl)
 types_other _ n = refl
 
-types_written : (s : Section) (at : ℕ) (a : List ℕ) (ys : List FuncType) → SectionOf s at a → Each IsFuncType (types_in s) ys → length (section 1 func_type_bytes ys) ≤ length a
+types_written : (s : Section) (at : ℕ) (a : List ℕ) (ys : List FuncType) → SectionOf s at a → AllZip IsFuncType (types_in s) ys → length (section 1 func_type_bytes ys) ≤ length a
 types_written (types xs) at a ys h e = section_short FunctionType func_type_bytes IsFuncType type_short xs ys 1 at a h e
 types_written _ at a [] h e = omega arith
 types_written _ at a (y ∷ ys) h e = absurd e
@@ -113,7 +110,7 @@ imports_other : (s : Section) → (section_id s ≡ 2 → ⊥) → imports_in s 
 imports_other (imports xs) n = absurd (n refl)
 imports_other _ n = refl
 
-imports_written : (s : Section) (at : ℕ) (a : List ℕ) (ys : List Import) → SectionOf s at a → Each IsImport (imports_in s) ys → length (section 2 import_bytes ys) ≤ length a
+imports_written : (s : Section) (at : ℕ) (a : List ℕ) (ys : List Import) → SectionOf s at a → AllZip IsImport (imports_in s) ys → length (section 2 import_bytes ys) ≤ length a
 imports_written (imports xs) at a ys h e = section_short ImportOf import_bytes IsImport import_short xs ys 2 at a h e
 imports_written _ at a [] h e = omega arith
 imports_written _ at a (y ∷ ys) h e = absurd e
@@ -125,7 +122,7 @@ functions_other : (s : Section) → (section_id s ≡ 3 → ⊥) → sorts_in s 
 functions_other (functions xs) n = absurd (n refl)
 functions_other _ n = refl
 
-functions_written : (s : Section) (at : ℕ) (a : List ℕ) (ys : List ℕ) → SectionOf s at a → Each Same (sorts_in s) ys → length (section 3 shortest ys) ≤ length a
+functions_written : (s : Section) (at : ℕ) (a : List ℕ) (ys : List ℕ) → SectionOf s at a → AllZip Same (sorts_in s) ys → length (section 3 shortest ys) ≤ length a
 functions_written (functions xs) at a ys h e = section_short Number shortest Same index_short xs ys 3 at a h e
 functions_written _ at a [] h e = omega arith
 functions_written _ at a (y ∷ ys) h e = absurd e
@@ -137,7 +134,7 @@ tables_other : (s : Section) → (section_id s ≡ 4 → ⊥) → tables_in s �
 tables_other (tables xs) n = absurd (n refl)
 tables_other _ n = refl
 
-tables_written : (s : Section) (at : ℕ) (a : List ℕ) (ys : List Limits) → SectionOf s at a → Each Same (tables_in s) ys → length (section 4 table_bytes ys) ≤ length a
+tables_written : (s : Section) (at : ℕ) (a : List ℕ) (ys : List Limits) → SectionOf s at a → AllZip Same (tables_in s) ys → length (section 4 table_bytes ys) ≤ length a
 tables_written (tables xs) at a ys h e = section_short TableType table_bytes Same table_short xs ys 4 at a h e
 tables_written _ at a [] h e = omega arith
 tables_written _ at a (y ∷ ys) h e = absurd e
@@ -149,7 +146,7 @@ memories_other : (s : Section) → (section_id s ≡ 5 → ⊥) → memories_in 
 memories_other (memories xs) n = absurd (n refl)
 memories_other _ n = refl
 
-memories_written : (s : Section) (at : ℕ) (a : List ℕ) (ys : List Limits) → SectionOf s at a → Each Same (memories_in s) ys → length (section 5 limits_bytes ys) ≤ length a
+memories_written : (s : Section) (at : ℕ) (a : List ℕ) (ys : List Limits) → SectionOf s at a → AllZip Same (memories_in s) ys → length (section 5 limits_bytes ys) ≤ length a
 memories_written (memories xs) at a ys h e = section_short LimitsOf limits_bytes Same limits_short xs ys 5 at a h e
 memories_written _ at a [] h e = omega arith
 memories_written _ at a (y ∷ ys) h e = absurd e
@@ -161,7 +158,7 @@ globals_other : (s : Section) → (section_id s ≡ 6 → ⊥) → globals_in s 
 globals_other (globals xs) n = absurd (n refl)
 globals_other _ n = refl
 
-globals_written : (s : Section) (at : ℕ) (a : List ℕ) (ys : List GlobalDef) → SectionOf s at a → Each IsGlobal (globals_in s) ys → length (section 6 global_bytes ys) ≤ length a
+globals_written : (s : Section) (at : ℕ) (a : List ℕ) (ys : List GlobalDef) → SectionOf s at a → AllZip IsGlobal (globals_in s) ys → length (section 6 global_bytes ys) ≤ length a
 globals_written (globals xs) at a ys h e = section_short GlobalOf global_bytes IsGlobal global_short xs ys 6 at a h e
 globals_written _ at a [] h e = omega arith
 globals_written _ at a (y ∷ ys) h e = absurd e
@@ -173,7 +170,7 @@ exports_other : (s : Section) → (section_id s ≡ 7 → ⊥) → exports_in s 
 exports_other (exports xs) n = absurd (n refl)
 exports_other _ n = refl
 
-exports_written : (s : Section) (at : ℕ) (a : List ℕ) (ys : List Export) → SectionOf s at a → Each Same (exports_in s) ys → length (section 7 export_bytes ys) ≤ length a
+exports_written : (s : Section) (at : ℕ) (a : List ℕ) (ys : List Export) → SectionOf s at a → AllZip Same (exports_in s) ys → length (section 7 export_bytes ys) ≤ length a
 exports_written (exports xs) at a ys h e = section_short ExportOf export_bytes Same export_short xs ys 7 at a h e
 exports_written _ at a [] h e = omega arith
 exports_written _ at a (y ∷ ys) h e = absurd e
@@ -185,7 +182,7 @@ elements_other : (s : Section) → (section_id s ≡ 9 → ⊥) → elements_in 
 elements_other (elements xs) n = absurd (n refl)
 elements_other _ n = refl
 
-elements_written : (s : Section) (at : ℕ) (a : List ℕ) (ys : List Elem) → SectionOf s at a → Each IsElem (elements_in s) ys → length (section 9 elem_bytes ys) ≤ length a
+elements_written : (s : Section) (at : ℕ) (a : List ℕ) (ys : List Elem) → SectionOf s at a → AllZip IsElem (elements_in s) ys → length (section 9 elem_bytes ys) ≤ length a
 elements_written (elements xs) at a ys h e = section_short ElementOf elem_bytes IsElem elem_short xs ys 9 at a h e
 elements_written _ at a [] h e = omega arith
 elements_written _ at a (y ∷ ys) h e = absurd e
@@ -197,7 +194,7 @@ bodies_other : (s : Section) → (section_id s ≡ 10 → ⊥) → bodies_in s �
 bodies_other (bodies xs) n = absurd (n refl)
 bodies_other _ n = refl
 
-bodies_written : (s : Section) (at : ℕ) (a : List ℕ) (ys : List Func) → SectionOf s at a → Each IsBody (bodies_in s) ys → length (section 10 (λ (f : Func). sized (body_bytes f)) ys) ≤ length a
+bodies_written : (s : Section) (at : ℕ) (a : List ℕ) (ys : List Func) → SectionOf s at a → AllZip IsBody (bodies_in s) ys → length (section 10 (λ (f : Func). sized (body_bytes f)) ys) ≤ length a
 bodies_written (bodies xs) at a ys h e = section_short BodyOf (λ (f : Func). sized (body_bytes f)) IsBody body_short xs ys 10 at a h e
 bodies_written _ at a [] h e = omega arith
 bodies_written _ at a (y ∷ ys) h e = absurd e
@@ -209,7 +206,7 @@ segments_other : (s : Section) → (section_id s ≡ 11 → ⊥) → segments_in
 segments_other (segments xs) n = absurd (n refl)
 segments_other _ n = refl
 
-segments_written : (s : Section) (at : ℕ) (a : List ℕ) (ys : List Segment) → SectionOf s at a → Each IsSegment (segments_in s) ys → length (section 11 segment_bytes ys) ≤ length a
+segments_written : (s : Section) (at : ℕ) (a : List ℕ) (ys : List Segment) → SectionOf s at a → AllZip IsSegment (segments_in s) ys → length (section 11 segment_bytes ys) ≤ length a
 segments_written (segments xs) at a ys h e = section_short SegmentOf segment_bytes IsSegment segment_short xs ys 11 at a h e
 segments_written _ at a [] h e = omega arith
 segments_written _ at a (y ∷ ys) h e = absurd e
@@ -226,7 +223,7 @@ start_other : (s : Section) → (section_id s ≡ 8 → ⊥) → starts_in s ≡
 start_other (start x) n = absurd (n refl)
 start_other _ n = refl
 
-start_written : (s : Section) (at : ℕ) (a : List ℕ) (ys : List ℕ) → SectionOf s at a → Each Same (starts_in s) ys → length (start_bytes ys) ≤ length a
+start_written : (s : Section) (at : ℕ) (a : List ℕ) (ys : List ℕ) → SectionOf s at a → AllZip Same (starts_in s) ys → length (start_bytes ys) ≤ length a
 unfolding start_bytes
 start_written (start x) at a [] h e = absurd e
 start_written (start x) at a (y ∷ ys) h e =
@@ -262,15 +259,15 @@ customs_short last (custom n b ∷ ss) at a h =
     let z = s.4.1 in
     let v = z.4.1 in
     let c : Custom = record { after = last; name = n; bytes = b } in
-    let content : length (name_bytes n ++ b) ≤ s.4.0 = omega (
+    let content : length (sized n ++ b) ≤ s.4.0 = omega (
       arith,
       length_split z.1 v.0 v.1 v.2,
-      length-append (name_bytes n) b,
+      length-append (sized n) b,
       text_short n (at + length s.0 + length z.0) v.0 v.3,
       ap length v.4,
       z.4.0,
     ) in
-    let w = sized_short (name_bytes n ++ b) s.4.0 s.1 z.0 z.1 z.2 z.3 z.4.0 content in
+    let w = sized_short (sized n ++ b) s.4.0 s.1 z.0 z.1 z.2 z.3 z.4.0 content in
     omega (arith, length-append (custom_bytes c) (flat_map custom_bytes (customs_of last ss)), length_split h.0 s.0 s.1 s.2, ap length s.3, w, customs_short last ss (at + length h.0) h.1 h.4)
 customs_short last (types xs ∷ ss) at a h = omega (arith, customs_short 1 ss (at + length h.0) h.1 h.4)
 customs_short last (imports xs ∷ ss) at a h = omega (arith, customs_short 2 ss (at + length h.0) h.1 h.4)
@@ -388,8 +385,8 @@ mapped_items [] = refl
 mapped_items (f ∷ fs) = ap (λ z. shortest f.sort ++ z) (mapped_items fs)
 
 -- lists that are the same
-same_as : {X : Type 0} (xs ys : List X) → ys ≡ xs → Each Same xs ys
-same_as xs ys e = subst (λ z. Each Same xs z) (sym e) (each_same xs)
+same_as : {X : Type 0} (xs ys : List X) → ys ≡ xs → AllZip Same xs ys
+same_as xs ys e = subst (λ z. AllZip Same xs z) (sym e) (each_same xs)
 
 -- the function section, from the functions' type indices
 mapped_section : (fs : List Func) → section 3 (λ (f : Func). shortest f.sort) fs ≡ section 3 shortest (map (λ (f : Func). f.sort) fs)

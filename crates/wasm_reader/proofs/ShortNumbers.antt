@@ -1,8 +1,8 @@
 -- How long the shortest spelling of a number is.
 use Rattle.std.proofs.Common.{◌≡◌, ℕ, zero, suc, ◌+◌, ◌/◌, ◌%◌, ◌<◌, ◌≤◌, ◌⊎◌, inl, inr, List, [], ◌∷◌, length, Bool, true, false, cond, nat_lt, refl, arith}
 use Rattle.std.proofs.lemmas.Bool.{lt-ltb, le-ltb, ltb-true, ltb-false}
-use Rattle.wa_types.proofs.UnsignedSpelling.{shortest_least}
-use Rattle.wa_types.specs.Leb.{IsUnsigned, spelled, shortest}
+use Rattle.leb_numbers.proofs.UnsignedSpelling.{shortest_least}
+use Rattle.leb_numbers.specs.Leb.{IsUnsigned, spelled, shortest}
 
 pub by_test : (b : Bool) → (b ≡ true) ⊎ (b ≡ false)
 by_test true = inl refl

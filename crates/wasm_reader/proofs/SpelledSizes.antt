@@ -4,7 +4,7 @@ use Rattle.std.proofs.Common.{cond, nat_lt}
 use Rattle.std.proofs.lemmas.Bool.{ltb-false}
 use Rattle.std.proofs.lemmas.List.Elements.{All-head, All-tail, All-cons, All-append}
 use Rattle.std.proofs.lemmas.List.Sums.{sum_by-cons, count_by-le-length}
-use Rattle.std.specs.List.{sum_by}
+use Rattle.std.specs.List.{AllZip, sum_by}
 use Rattle.wa_types.specs.declared.syntax.Limits.{Limits}
 use Rattle.wa_types.specs.declared.syntax.Import.{Import}
 use Rattle.wa_types.specs.declared.syntax.Export.{Export}
@@ -14,7 +14,7 @@ use Rattle.wa_types.specs.Binary.{Placed, RawType, RawImport, RawGlobal, RawElem
 use Rattle.wa_types.specs.Binary.{elements, bodies, segments}
 use Rattle.wa_types.specs.Spells.{◌▸◌, Exactly, Number, Items, Vector, Sized, Text, ValueType, FunctionType, Maximum, LimitsOf, TableType, ImportOf, GlobalOf, ExportOf, ElementOf, RunOf}
 use Rattle.wa_types.specs.Spells.{BodyOf, SegmentOf, SectionOf, sorts_in, bodies_in}
-use Rattle.wa_types.specs.Reading.{Each, IsValueType, IsFuncType, IsImport, IsGlobal, IsElem, IsRun, IsBody, IsSegment, types_in, imports_in, tables_in, memories_in, globals_in, exports_in}
+use Rattle.wa_types.specs.Reading.{IsValueType, IsFuncType, IsImport, IsGlobal, IsElem, IsRun, IsBody, IsSegment, types_in, imports_in, tables_in, memories_in, globals_in, exports_in}
 use Rattle.wa_types.specs.Reading.{elements_in, segments_in, SpellsModule, IsModule}
 use Rattle.wa_types.specs.Marks.{local_counts, locals_with, params_at, first_above}
 use Rattle.wa_types.specs.Sizes.{params_of_type, is_func, is_table, is_memory, is_global, code_lists, FuncSizes, TypeSizes, ElemSizes, SegmentSizes, MeetsSizes}
@@ -175,13 +175,13 @@ segments_take (segments xs) at a h = section_takes SegmentOf segment_takes xs 11
 segments_take _ at a h = omega arith
 
 -- two lists whose items are each the other's are of one length
-pub each_length : {X Y : Type 0} (R : X → Y → Type 0) (xs : List X) (ys : List Y) → Each R xs ys → length xs ≡ length ys
+pub each_length : {X Y : Type 0} (R : X → Y → Type 0) (xs : List X) (ys : List Y) → AllZip R xs ys → length xs ≡ length ys
 each_length R [] [] h = refl
 each_length R [] (y ∷ ys) h = absurd h
 each_length R (x ∷ xs) [] h = absurd h
 each_length R (x ∷ xs) (y ∷ ys) h = ap suc (each_length R xs ys h.1)
 
-each_all : {X Y : Type 0} (S : X → Type 0) (R : X → Y → Type 0) (P : Y → Type 0) → ((x : X) (y : Y) → S x → R x y → P y) → (xs : List X) (ys : List Y) → All S xs → Each R xs ys → All P ys
+each_all : {X Y : Type 0} (S : X → Type 0) (R : X → Y → Type 0) (P : Y → Type 0) → ((x : X) (y : Y) → S x → R x y → P y) → (xs : List X) (ys : List Y) → All S xs → AllZip R xs ys → All P ys
 each_all S R P h [] [] s e = none_seen P
 each_all S R P h [] (y ∷ ys) s e = absurd e
 each_all S R P h (x ∷ xs) [] s e = absurd e
@@ -207,14 +207,14 @@ none_above f bound (x ∷ xs) e =
     All-cons (λ x. f x ≤ bound) x xs (ltb-false bound (f x) c.0) (none_above f bound xs c.1)
 
 -- the parameters of a type, read and spelled
-same_params : (ts : List RawType) (us : List FuncType) (sort : ℕ) → Each IsFuncType ts us → params_at ts sort ≡ params_of_type us sort
+same_params : (ts : List RawType) (us : List FuncType) (sort : ℕ) → AllZip IsFuncType ts us → params_at ts sort ≡ params_of_type us sort
 same_params [] [] sort h = refl
 same_params [] (u ∷ us) sort h = absurd h
 same_params (t ∷ ts) [] sort h = absurd h
 same_params (t ∷ ts) (u ∷ us) zero h = each_length IsValueType t.params u.params h.0.params
 same_params (t ∷ ts) (u ∷ us) (suc sort) h = same_params ts us sort h.1
 
-same_counts : (rs : List RawRun) (qs : List Run) → Each IsRun rs qs → sum_by (λ (r : RawRun). r.count) rs ≡ sum_by (λ (r : Run). r.count) qs
+same_counts : (rs : List RawRun) (qs : List Run) → AllZip IsRun rs qs → sum_by (λ (r : RawRun). r.count) rs ≡ sum_by (λ (r : Run). r.count) qs
 same_counts [] [] h = refl
 same_counts [] (q ∷ qs) h = absurd h
 same_counts (r ∷ rs) [] h = absurd h
@@ -222,7 +222,7 @@ same_counts (r ∷ rs) (q ∷ qs) h =
     omega (arith, h.0.count, same_counts rs qs h.1, sum_by-cons (λ (r : RawRun). r.count) r rs, sum_by-cons (λ (r : Run). r.count) q qs)
 
 -- the parameters and locals of each function, read and spelled
-same_locals : (ts : List RawType) (us : List FuncType) (bs : List RawBody) (fs : List Func) → Each IsFuncType ts us → Each IsBody bs fs
+same_locals : (ts : List RawType) (us : List FuncType) (bs : List RawBody) (fs : List Func) → AllZip IsFuncType ts us → AllZip IsBody bs fs
     → locals_with ts (map (λ (f : Func). f.sort) fs) bs ≡ map (func_locals us) fs
 same_locals ts us [] [] h e = refl
 same_locals ts us [] (f ∷ fs) h e = absurd e
@@ -299,7 +299,7 @@ func_sizes n lists items most l k m f x y s i few =
     }
 
 funcs_sizes : (n lists items most : ℕ) → n < lists → 1001 * most + 50000 < items → (m : Module) → HaveFewParams m.types → (xs : List RawBody) (ys : List Func) → All (FewBytes n most) xs
-    → Each IsBody xs ys → All (λ (y : Func). func_locals m.types y ≤ 50000) ys → All (FuncSizes lists items m) ys
+    → AllZip IsBody xs ys → All (λ (y : Func). func_locals m.types y ≤ 50000) ys → All (FuncSizes lists items m) ys
 funcs_sizes n lists items most l k m f [] [] s e a = none_seen (FuncSizes lists items m)
 funcs_sizes n lists items most l k m f [] (y ∷ ys) s e a = absurd e
 funcs_sizes n lists items most l k m f (x ∷ xs) [] s e a = absurd e
@@ -330,7 +330,7 @@ spelled_runs bytes m s =
     (held_seen (length bytes) BodyOf bodies_in (bodies_seen (length bytes)) s.sections (0 + length p.0) p.1 p.4 (omega (arith, e))) s.is_module.funcs
 
 -- types of few parameters, read and spelled
-few_params : (ts : List RawType) (us : List FuncType) → Each IsFuncType ts us → All (λ (t : RawType). length t.params ≤ 1000) ts → HaveFewParams us
+few_params : (ts : List RawType) (us : List FuncType) → AllZip IsFuncType ts us → All (λ (t : RawType). length t.params ≤ 1000) ts → HaveFewParams us
 few_params ts us e a = each_all (λ (t : RawType). length t.params ≤ 1000) IsFuncType (λ (u : FuncType). length u.params ≤ 1000)
     (λ t u s i. omega (arith, s, each_length IsValueType t.params u.params i.params)) ts us a e
 

@@ -1,4 +1,6 @@
 pub mod Answers
+pub mod FilePieces
+pub mod Held
 pub mod Locals
 pub mod Marking
 pub mod Pieces

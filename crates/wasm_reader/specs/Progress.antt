@@ -5,7 +5,7 @@ use Rattle.wa_types.specs.ModuleBounds.{ModuleBounds}
 use Rattle.wa_types.specs.Reading.{IsModule, SpellsModule}
 use Rattle.wa_types.specs.Syntax.{Module}
 use Rattle.wa_types.specs.declared.syntax.Module.{Module as ModuleValue}
-use Rattle.wasm_build.specs.BuildFault.{BuildFault}
+use Rattle.wasm_build.specs.declared.build_types.BuildFault.{BuildFault}
 use Rattle.wasm_build.specs.BuildsModule.{GivesModule}
 use Rattle.wasm_build.specs.BuildsPieces.{Comes}
 use Rattle.wasm_build.specs.declared.builder.Builder.{Builder}

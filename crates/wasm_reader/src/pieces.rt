@@ -15,7 +15,7 @@ ghost use Rattle.wasm_reader.specs.declared.read_fault.ReadFault.{ReadFault as F
 
 use crate::progress::{Progress, take};
 use crate::read_fault::ReadFault;
-use crate::reader::read_whole;
+use crate::reader::{Unbuilt, read_whole};
 use std::alloc::Global;
 use std::marker::Model;
 use wa_types::{Bounds, Module};
@@ -137,7 +137,14 @@ fn finish(alloc: Global, progress: Progress, bounds: &Bounds) -> Result<Module, 
     let _limit = bounds.file();
     let file = Window::new(&before, base, &window);
     match whole(alloc, &machine, &file, bounds) {
-        Ok(marks) => read_whole(alloc, &file, builder, &window, base, bounds, &marks),
+        Ok(marks) => {
+            let rest = Unbuilt {
+                builder,
+                left: &window,
+                base,
+            };
+            read_whole(alloc, &file, rest, bounds, &marks)
+        }
         Err(CheckFault::Memory) => Err(ReadFault::Memory),
         Err(CheckFault::Malformed { at }) => Err(ReadFault::Malformed { at: at as u64 }),
     }

@@ -9,7 +9,7 @@ ghost use Rattle.wa_types.specs.ModuleBounds.{prepared_bounds, source_bounds};
 ghost use Rattle.wa_types.specs.Sizes.{SizeRule, StrictSizeRule};
 ghost use Rattle.wa_types.specs.View.{module_of};
 ghost use Rattle.wasm_reader.specs.Answers.{IsAccepted, IsFile, IsRefused};
-ghost use Rattle.wasm_grammar.specs.Found.{MarksOf};
+ghost use Rattle.file_laws.specs.Found.{MarksOf};
 ghost use Rattle.wasm_grammar.specs.Machine.{AreMarks};
 ghost use Rattle.wasm_reader.specs.Marking.{IsJudged};
 ghost use Rattle.wasm_reader.specs.Progress.{GivesLeft, IsLeft};
@@ -46,21 +46,31 @@ pub fn read(alloc: Global, bytes: &[u8], bounds: &Bounds) -> Result<Module, Read
     let file = Window::whole(&nothing, bytes);
     match check(alloc, &file, bounds) {
         Ok(marks) => {
-            let builder = Some(Builder::new(alloc));
-            read_whole(alloc, &file, builder, bytes, 0, bounds, &marks)
+            let rest = Unbuilt {
+                builder: Some(Builder::new(alloc)),
+                left: bytes,
+                base: 0,
+            };
+            read_whole(alloc, &file, rest, bounds, &marks)
         }
         Err(CheckFault::Memory) => Err(ReadFault::Memory),
         Err(CheckFault::Malformed { at }) => Err(ReadFault::Malformed { at: at as u64 }),
     }
 }
 
+/// The last bytes of a file, which aren't built yet: what builds it, where it still can, these bytes, and where they begin.
+#[derive(Drop)]
+pub(crate) struct Unbuilt<'a> {
+    pub builder: Option<Builder>,
+    pub left: &'a [u8],
+    pub base: usize,
+}
+
 /// The module of a whole file along which this was marked, of which these last bytes aren't built, or why it is refused.
 pub(crate) fn read_whole(
     alloc: Global,
     file: &Window<'_>,
-    builder: Option<Builder>,
-    left: &[u8],
-    base: usize,
+    rest: Unbuilt<'_>,
     bounds: &Bounds,
     marks: &Marks,
 ) -> Result<Module, ReadFault>
@@ -68,7 +78,7 @@ pub(crate) fn read_whole(
     requires columns { (bounds.now ≡ source_bounds) ⊎ (bounds.now ≡ prepared_bounds) }
     requires whole { IsWhole file.now.all }
     requires marks { AreMarks bounds.now file.now.all marks.now }
-    requires left { IsLeft bounds.now file.now.all builder left.now base }
+    requires left { IsLeft bounds.now file.now.all rest.builder rest.left.now rest.base }
     ensures ok { IfOk result (λ r. IsAccepted bounds.now file.now.all (module_of r)) }
     ensures sizes { IfOk result (λ r. SizeRule (module_of r)) }
     ensures source_sizes { bounds.now ≡ source_bounds → IfOk result (λ r. StrictSizeRule (module_of r)) }
@@ -78,7 +88,7 @@ pub(crate) fn read_whole(
     if let Some(fault) = judge(marks, bounds) {
         return Err(fault);
     }
-    let module = match build_left(alloc, builder, left, base) {
+    let module = match build_left(alloc, rest) {
         Ok(module) => module,
         Err(BuildFault::Memory) => return Err(ReadFault::Memory),
         Err(BuildFault::NotSpelled) => unreachable!(),
@@ -93,15 +103,15 @@ pub(crate) fn read_whole(
 }
 
 // The module of a file whose last bytes these are.
-fn build_left(
-    alloc: Global,
-    builder: Option<Builder>,
-    left: &[u8],
-    base: usize,
-) -> Result<Module, BuildFault>
-    requires { base + length left.now < 2 ^ 64 }
-    ensures { GivesLeft result builder left.now base }
+fn build_left(alloc: Global, rest: Unbuilt<'_>) -> Result<Module, BuildFault>
+    requires { rest.base + length rest.left.now < 2 ^ 64 }
+    ensures { GivesLeft result rest.entry.builder rest.entry.left.now rest.entry.base }
 {
+    let Unbuilt {
+        builder,
+        left,
+        base,
+    } = rest;
     let Some(mut builder) = builder else {
         return Err(BuildFault::NotSpelled);
     };

@@ -1,9 +1,7 @@
-pub use Rattle.validate_modules.proofs.ContextLemmas
-pub use Rattle.validate_modules.proofs.Decided
-pub use Rattle.validate_modules.proofs.FuncLemmas
-pub use Rattle.validate_modules.proofs.NameLemmas
-pub use Rattle.validate_modules.proofs.OrderedNames
-pub use Rattle.validate_modules.proofs.BodyVerdicts
-pub use Rattle.validate_modules.proofs.SpaceLemmas
+pub mod ExpressionLemmas
+pub mod FuncLemmas
+pub mod NameLemmas
+pub mod OrderedNames
+pub mod OutsideLemmas
 pub mod WalkUses
 pub mod Walks

@@ -1,120 +1,28 @@
 -- How a walk goes over a typed body: what a caller needs at each instruction.
-use Rattle.std.proofs.Common.{◌≡◌, ℕ, ◌+◌, ◌<◌, ◌++◌, length, drop, get_or, List, [], ◌∷◌, Option, Some, None, Bool, true, false, if◌then◌else◌, refl, ap, sym, ◌∙◌, subst, slice_get, nat_le}
+use Rattle.std.proofs.Common.{◌≡◌, ℕ, ◌+◌, ◌<◌, ◌++◌, length, drop, get_or, List, [], ◌∷◌, Option, Some, None, false, if◌then◌else◌, refl, ap, sym, ◌∙◌, subst, slice_get, arith, nat_lt, ◌-◌}
 use Rattle.std.specs.declared.vec.Vec.{Vec}
 use Rattle.std.specs.declared.alloc.Global.{Global}
 use Rattle.wa_types.specs.declared.values.ValType.{ValType}
 use Rattle.wa_types.specs.declared.values.ValType.TheVariants.{I32}
 use Rattle.wa_types.specs.declared.instrs.Instr.{Instr}
-use Rattle.wa_types.specs.declared.instrs.Instr.TheVariants.{Unreachable, Nop, Drop, Select, Return, MemorySize, MemoryGrow, Const, Num, Br, BrIf, BrTable, Call, CallIndirect, LocalGet}
-use Rattle.wa_types.specs.declared.instrs.Instr.TheVariants.{LocalSet, LocalTee, GlobalGet, GlobalSet, Load, Store, Block, Loop, If, Block', Loop', If'}
-use Rattle.wa_types.specs.Accesses.{AccessRow, load_row, store_row}
-use Rattle.wa_types.specs.Syntax.{Basic, nop, drop as drop_operand, select, const, num, global_get, global_set, load, store, memory_size, memory_grow, Plain, basic, local_get, local_set}
-use Rattle.wa_types.specs.Syntax.{local_tee, br, br_if, br_table, return, unreachable, call, call_indirect, Shape, a_block, a_loop, Code, done, plain, nest, branch, FuncType}
-use Rattle.wa_types.specs.View.{in_front, code}
+use Rattle.wa_types.specs.declared.instrs.Instr.TheVariants.{Unreachable, Nop, Drop, Select, Return, MemorySize, MemoryGrow, MemoryCopy, MemoryFill, Const, Num, Br, BrIf, BrTable, Call, CallIndirect, LocalGet, LocalSet, LocalTee, GlobalGet, GlobalSet, Load, Store, Block, Loop, If, Block', Loop', If'}
+use Rattle.wa_types.specs.Syntax.{Plain, Shape, a_block, a_loop, Code, done, plain, nest, branch, Func, Module}
+use Rattle.wa_types.specs.View.{in_front, code, module_of, func_of}
 use Rattle.wa_types.specs.Pruned.{is_last, is_last_instr}
-use Rattle.wa_types.specs.declared.rules.Rule.TheVariants.{Alignment, ConstantGlobal}
-use Rattle.wa_types.specs.Typing.{GlobalType, Around, Sig, moves, leaves, drops, selects, lacks, late, listed, sig, basic_sig, may_jump, calls, calls_at, gets, sets, tees, gets_global}
-use Rattle.wa_types.specs.Typing.{sets_global, accesses, loads, stores, with_memory, Takes, label, Types}
+use Rattle.wa_types.specs.Typing.{Around, Sig, moves, leaves, drops, selects, lacks, late, listed, sig, Takes, label, Types}
 use Rattle.wa_types.proofs.ViewLemmas.{in_block, in_loop, in_if, code_step}
-use Rattle.validate_modules.specs.Table.{plain_of}
-use Rattle.wa_types.specs.Syntax.{Func, Module}
-use Rattle.std.proofs.Common.{arith, nat_lt, ◌-◌}
+use Rattle.validate_bodies.specs.Table.{plain_of}
 use Rattle.std.specs.List.{filter_map}
 use Rattle.wa_types.specs.declared.syntax.Import.{Import}
 use Rattle.wa_types.specs.declared.syntax.Func.{Func as FuncValue}
 use Rattle.wa_types.specs.declared.syntax.Module.{Module as ModuleValue}
-use Rattle.wa_types.specs.View.{module_of, func_of}
 use Rattle.wa_types.specs.Modules.{around, defined_at, func_imports, imported_func}
-use Rattle.validate_modules.proofs.FuncLemmas.{func_at}
+use Rattle.wasm_validate.proofs.FuncLemmas.{func_at}
 use Rattle.wa_types.specs.Validity.{Valid}
 use Rattle.wa_types.specs.Leaves.{is_leaf}
-use Rattle.validate_modules.specs.Walk.{Walk, outset, Stays, Inside, TypedAt}
-use Rattle.validate_modules.proofs.InstrKinds.{is_block, is_loop, is_branch, is_plain, leaf_kind}
-
--- control may come behind it
-abbrev pub Passes : Sig → Type 0
-Passes (leaves ps) = ⊥
-Passes _ = Unit {0}
-
-passes_if : (b : Bool) (s t : Sig) → Passes s → Passes t → Passes (if b then s else t)
-passes_if true s t h k = h
-passes_if false s t h k = k
-
-passes_may_jump : (o : Option (Option ValType)) → Passes (may_jump o)
-passes_may_jump None = tt
-passes_may_jump (Some r) = tt
-
-passes_calls : (o : Option FuncType) → Passes (calls o)
-passes_calls None = tt
-passes_calls (Some t) = tt
-
-passes_calls_at : (b : Bool) (o : Option FuncType) → Passes (calls_at b o)
-passes_calls_at b None = tt
-passes_calls_at false (Some t) = tt
-passes_calls_at true (Some t) = tt
-
-passes_gets : (o : Option ValType) → Passes (gets o)
-passes_gets None = tt
-passes_gets (Some t) = tt
-
-passes_sets : (o : Option ValType) → Passes (sets o)
-passes_sets None = tt
-passes_sets (Some t) = tt
-
-passes_tees : (o : Option ValType) → Passes (tees o)
-passes_tees None = tt
-passes_tees (Some t) = tt
-
-passes_gets_global : (o : Option GlobalType) → Passes (gets_global o)
-passes_gets_global None = tt
-passes_gets_global (Some g) = tt
-
-passes_sets_global : (o : Option GlobalType) → Passes (sets_global o)
-passes_sets_global None = tt
-passes_sets_global (Some g) = passes_if g.mutable (moves (g.ty ∷ []) []) (late ConstantGlobal (g.ty ∷ []) []) tt tt
-
-passes_accesses : (align : ℕ) (row : AccessRow) (ins outs : List ValType) → Passes (accesses align row ins outs)
-passes_accesses align row ins outs = passes_if (nat_le align row.natural) (moves ins outs) (late Alignment ins outs) tt tt
-
-passes_loads : (b : Bool) (align : ℕ) (o : Option AccessRow) → Passes (loads b align o)
-passes_loads false align o = tt
-passes_loads true align None = tt
-passes_loads true align (Some row) = passes_accesses align row (I32 ∷ []) (row.ty ∷ [])
-
-passes_stores : (b : Bool) (align : ℕ) (o : Option AccessRow) → Passes (stores b align o)
-passes_stores false align o = tt
-passes_stores true align None = tt
-passes_stores true align (Some row) = passes_accesses align row (row.ty ∷ I32 ∷ []) []
-
-passes_with_memory : (b : Bool) (ins outs : List ValType) → Passes (with_memory b ins outs)
-passes_with_memory false ins outs = tt
-passes_with_memory true ins outs = tt
-
-passes_basic : (c : Around) (b : Basic) → Passes (basic_sig c b)
-passes_basic c nop = tt
-passes_basic c drop_operand = tt
-passes_basic c select = tt
-passes_basic c (const v) = tt
-passes_basic c (num op) = tt
-passes_basic c (global_get x) = passes_gets_global (slice_get c.globals x)
-passes_basic c (global_set x) = passes_sets_global (slice_get c.globals x)
-passes_basic c (load op align offset) = passes_loads c.memory align (load_row op)
-passes_basic c (store op align offset) = passes_stores c.memory align (store_row op)
-passes_basic c memory_size = passes_with_memory c.memory [] (I32 ∷ [])
-passes_basic c memory_grow = passes_with_memory c.memory (I32 ∷ []) (I32 ∷ [])
-
-passes : (c : Around) (ls : List (Option ValType)) (p : Plain) → is_last p ≡ false → Passes (sig c ls p)
-passes c ls (basic b) e = passes_basic c b
-passes c ls (local_get x) e = passes_gets (slice_get c.locals x)
-passes c ls (local_set x) e = passes_sets (slice_get c.locals x)
-passes c ls (local_tee x) e = passes_tees (slice_get c.locals x)
-passes c ls (br l) e = absurd (cc)
-passes c ls (br_if l) e = passes_may_jump (slice_get ls l)
-passes c ls (br_table labels l) e = absurd (cc)
-passes c ls return e = absurd (cc)
-passes c ls unreachable e = absurd (cc)
-passes c ls (call x) e = passes_calls (slice_get c.funcs x)
-passes c ls (call_indirect x) e = passes_calls_at c.table (slice_get c.types x)
+use Rattle.wa_types.proofs.PointLemmas.{Passes, passes}
+use Rattle.wasm_validate.specs.Walk.{Walk, outset, Stays, Inside, TypedAt}
+use Rattle.validate_bodies.proofs.InstrKinds.{is_block, is_loop, is_branch, is_plain, leaf_kind}
 
 last_of : (p q : Plain) → Some p ≡ Some q → is_last p ≡ is_last q
 last_of p q e = let f : p ≡ q = cc in ap is_last f
@@ -128,6 +36,8 @@ last_plain Select p e = last_of _ p e
 last_plain Return p e = last_of _ p e
 last_plain MemorySize p e = last_of _ p e
 last_plain MemoryGrow p e = last_of _ p e
+last_plain MemoryCopy p e = last_of _ p e
+last_plain MemoryFill p e = last_of _ p e
 last_plain (Const v) p e = last_of _ p e
 last_plain (Num op) p e = last_of _ p e
 last_plain (Br l) p e = last_of _ p e

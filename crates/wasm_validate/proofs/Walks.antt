@@ -1,32 +1,26 @@
 -- The types on a walk.
-use Rattle.std.proofs.Common.{arith, ◌≡◌, ℕ, zero, suc, ◌+◌, ◌-◌, ◌≤◌, ◌++◌, length, take, drop, reverse, List, [], ◌∷◌, Option, Some, None, Bool, true, false, if◌then◌else◌, refl, ap, sym}
-use Rattle.std.proofs.Common.{◌∙◌, subst, length-drop, length-append, slice_get}
-use Rattle.std.proofs.lemmas.List.{length-take-le, length-reverse, reverse-append, take-append-drop, take-append-le, drop-append-le, drop-take, drop_all, take_all, reverse-reverse}
+use Rattle.std.proofs.Common.{arith, ◌≡◌, ℕ, zero, suc, ◌+◌, ◌-◌, ◌≤◌, ◌++◌, length, take, drop, reverse, List, [], ◌∷◌, Option, Some, None, Bool, true, false, if◌then◌else◌, refl, ap, sym, ◌∙◌, subst, length-drop, length-append, slice_get, get_or, set, Result, Ok, Err}
+use Rattle.std.proofs.lemmas.List.{length-take-le, length-reverse, reverse-append, take-append-drop, take-append-le, drop-append-le, drop-take, drop_all, take_all, take_more_set, take-take, reverse-reverse}
 use Rattle.std.proofs.Math.Seq.{drop-append_seam, take-append_seam}
-use Rattle.std.proofs.Common.{Result, Ok, Err}
 use Rattle.std.specs.Result.{OnErr}
 use Rattle.std.specs.declared.vec.Vec.{Vec}
 use Rattle.std.specs.declared.alloc.Global.{Global}
 use Rattle.wa_types.specs.declared.values.ValType.{ValType}
 use Rattle.wa_types.specs.declared.values.ValType.TheVariants.{I32}
 use Rattle.wa_types.specs.declared.instrs.Instr.{Instr}
-use Rattle.wa_types.specs.declared.instrs.Instr.TheVariants.{Unreachable, Nop, Drop, Select, Return, MemorySize, MemoryGrow, Const, Num, Br, BrIf, BrTable, Call, CallIndirect, LocalGet}
-use Rattle.wa_types.specs.declared.instrs.Instr.TheVariants.{LocalSet, LocalTee, GlobalGet, GlobalSet, Load, Store, Block, Loop, If, Block', Loop', If'}
-use Rattle.wa_types.specs.Syntax.{Plain, Shape, a_block, a_loop, Code, done, plain, nest, branch}
-use Rattle.wa_types.specs.View.{in_front, code}
+use Rattle.wa_types.specs.declared.instrs.Instr.TheVariants.{Unreachable, Nop, Drop, Select, Return, MemorySize, MemoryGrow, MemoryCopy, MemoryFill, Const, Num, Br, BrIf, BrTable, Call, CallIndirect, LocalGet, LocalSet, LocalTee, GlobalGet, GlobalSet, Load, Store, Block, Loop, If, Block', Loop', If'}
+use Rattle.wa_types.specs.Syntax.{Plain, Shape, a_block, a_loop, Code, done, plain, nest, branch, Func}
+use Rattle.wa_types.specs.View.{in_front, code, module_of}
 use Rattle.wa_types.specs.Typing.{Around, Types, sig, listed, Sig, moves, leaves, drops, selects, Takes}
 use Rattle.wa_types.proofs.ViewLemmas.{in_block, in_loop, in_if}
-use Rattle.validate_modules.specs.Asks as D
-use Rattle.validate_modules.specs.Table.{sig_of, tested}
-use Rattle.validate_modules.specs.Table.{plain_of, Says}
-use Rattle.validate_modules.specs.Walk.{left_at, Walk, outset, Stays, Inside, CanTake, own_at, under_at, around_or, standing}
+use Rattle.validate_bodies.specs.declared.table.Asks as D
+use Rattle.validate_bodies.specs.Table.{sig_of, tested, plain_of, Says}
+use Rattle.wasm_validate.specs.Walk.{left_at, Walk, outset, Stays, Inside, CanTake, own_at, under_at, around_or, standing}
 use Rattle.wa_types.specs.Leaves.{is_leaf}
 use Rattle.wa_types.specs.Modules.{around}
-use Rattle.wa_types.specs.Syntax.{Func}
 use Rattle.wa_types.specs.declared.syntax.Module.{Module as ModuleValue}
-use Rattle.wa_types.specs.View.{module_of}
-use Rattle.validate_modules.proofs.LabelLemmas.{reverse_listed}
-use Rattle.validate_modules.proofs.InstrKinds.{is_block, is_loop, is_branch, is_plain, leaf_kind}
+use Rattle.validate_bodies.proofs.LabelLemmas.{reverse_listed}
+use Rattle.validate_bodies.proofs.InstrKinds.{is_block, is_loop, is_branch, is_plain, leaf_kind}
 
 rest_of : (ys : List ValType) (n : ℕ) → n ≤ length ys → reverse (take (length ys - n) ys) ≡ drop n (reverse ys)
 rest_of ys n le =
@@ -78,6 +72,33 @@ room_drops b xs h le = omega (arith, own_length b xs, ap length h.1.1)
 
 pub room_selects : (b : ℕ) (xs : List ValType) → CanTake selects (own_at b xs) → b ≤ length xs → b + 2 ≤ length xs
 room_selects b xs h le = omega (arith, own_length b xs, ap length h.1.2)
+
+pub own_put : (b : ℕ) (xs new : List ValType) (t : ValType) → b ≤ length xs → new ≡ xs ++ t ∷ [] → own_at b new ≡ t ∷ own_at b xs
+own_put b xs new t h e = ap (own_at b) e ∙ own_given b xs (t ∷ []) h
+
+pub kept_put : (b : ℕ) (xs new : List ValType) (t : ValType) → b ≤ length xs → new ≡ xs ++ t ∷ [] → take b new ≡ take b xs
+kept_put b xs new t h e = ap (take b) e ∙ take-append-le b xs (t ∷ []) h
+
+set_is : (n k : ℕ) (xs new : List ValType) (t : ValType) → n ≤ length xs → 1 ≤ n → k ≡ length xs - n → new ≡ take (k + 1) (set xs k t) → new ≡ take k xs ++ t ∷ []
+set_is n k xs new t le some ek e = e ∙ take_more_set xs k t (omega arith)
+
+pub own_set : (b n k : ℕ) (xs new : List ValType) (t : ValType) → b + n ≤ length xs → 1 ≤ n → k ≡ length xs - n → new ≡ take (k + 1) (set xs k t) → own_at b new ≡ t ∷ drop n (own_at b xs)
+own_set b n k xs new t le some ek e =
+    let long : length (take k xs) ≡ k = length-take-le k xs (omega arith) in
+    own_put b (take k xs) new t (omega arith) (set_is n k xs new t (omega arith) some ek e) ∙ ap (λ ts. t ∷ ts) (own_taken b n k xs le ek)
+
+pub kept_set : (b n k : ℕ) (xs new : List ValType) (t : ValType) → b + n ≤ length xs → 1 ≤ n → k ≡ length xs - n → new ≡ take (k + 1) (set xs k t) → take b new ≡ take b xs
+kept_set b n k xs new t le some ek e =
+    let long : length (take k xs) ≡ k = length-take-le k xs (omega arith) in
+    kept_put b (take k xs) new t (omega arith) (set_is n k xs new t (omega arith) some ek e) ∙ take-take b k xs (omega arith)
+
+-- one type alone
+pub one_given : (ts ys : List ValType) (t : ValType) → length ts ≡ 1 → t ≡ get_or ts 0 t → reverse ts ++ ys ≡ t ∷ ys
+one_given [] ys t h e = absurd (omega arith)
+one_given (x ∷ []) ys t h e = ap (λ k. k ∷ ys) (sym e)
+one_given (x ∷ y ∷ ts) ys t h e = absurd (omega arith)
+
+pub ruleset changing = (own_put, kept_put, own_set, kept_set)
 
 pub ruleset taking = (own_taken, own_given)
 
@@ -208,6 +229,8 @@ leaf_plain Select p e = refl
 leaf_plain Return p e = refl
 leaf_plain MemorySize p e = refl
 leaf_plain MemoryGrow p e = refl
+leaf_plain MemoryCopy p e = refl
+leaf_plain MemoryFill p e = refl
 leaf_plain (Const v) p e = refl
 leaf_plain (Num op) p e = refl
 leaf_plain (Br l) p e = refl

@@ -1,4 +1,3 @@
-pub use Rattle.validate_modules.specs.Laws
-pub use Rattle.validate_modules.specs.Running
-pub use Rattle.validate_modules.specs.Validated
-pub use Rattle.validate_modules.specs.Walk
+pub mod Outside
+pub mod Validated
+pub mod Walk

@@ -7,12 +7,13 @@ ghost use Rattle.wa_types.specs.Syntax.{done, Func as PlainFunc};
 ghost use Rattle.wa_types.specs.Typing.{Takes, Types};
 ghost use Rattle.wa_types.specs.View.{func_type_of, in_front, module_of};
 ghost use Rattle.wa_types.specs.Leaves.{is_leaf};
-ghost use Rattle.validate_modules.specs.Table.{sig_of, tested};
-ghost use Rattle.validate_modules.specs.Walk.{left_at, outset, own_at, under_at, CanTake, Inside, Stays, TypedAt};
+ghost use Rattle.validate_bodies.specs.Table.{sig_of, tested};
+ghost use Rattle.wasm_validate.specs.Walk.{left_at, outset, own_at, under_at, CanTake, Inside, Stays, TypedAt};
 
+use crate::valid::Valid;
 use std::alloc::{AllocError, Global};
 use std::marker::Model;
-use validate_modules::{Asks, Valid, asks_at, listing};
+use validate_bodies::{Asks, asks_at, listing};
 use wa_types::{FuncType, Instr, ValType};
 
 /// A walk of the types of operands over the pruned body of a function. Contracts see where it stands: what stands
@@ -29,7 +30,7 @@ pub struct Typing<'m> {
 
 impl<'m> Model for Typing<'m> {
     ghost use Rattle.std.specs.Prelude.{◌<◌, ◌≤◌, length};
-    ghost use Rattle.validate_modules.specs.Walk.{standing, Walk};
+    ghost use Rattle.wasm_validate.specs.Walk.{standing, Walk};
 
     ghost Value = { Walk };
 
@@ -62,6 +63,30 @@ fn give_types(types: &mut Vec<ValType>, base: usize, given: &[ValType]) -> Resul
     types.extend_from_slice(given)
 }
 
+/// Puts this type in place of so many topmost ones. Where there is no memory, all stay.
+#[tactic(auto, using(crate::proofs::Walks::changing))]
+fn change_to(
+    types: &mut Vec<ValType>,
+    base: usize,
+    count: usize,
+    given: ValType,
+) -> Result<(), AllocError>
+    requires { base + count ≤ length types.old.items }
+    ensures deep { base ≤ length types.new.items }
+    ensures own { IfOk result (λ _. own_at base types.new.items ≡ given ∷ drop count (own_at base types.old.items)) }
+    ensures kept { take base types.new.items ≡ take base types.old.items }
+    ensures err { OnErr result (types.new.items ≡ types.old.items) }
+{
+    if count == 0 {
+        types.push(given)?;
+        return Ok(());
+    }
+    let at = types.len() - count;
+    types[at] = given;
+    types.truncate(at + 1);
+    Ok(())
+}
+
 /// Puts types in place of so many topmost ones. Where there is no memory, all stay.
 #[tactic(auto, using(crate::proofs::Walks::taking))]
 fn change_types(
@@ -76,6 +101,9 @@ fn change_types(
     ensures kept { take base types.new.items ≡ take base types.old.items }
     ensures err { OnErr result (types.new.items ≡ types.old.items) }
 {
+    if given.len() == 1 {
+        return change_to(types, base, count, given[0]);
+    }
     types.reserve(given.len())?;
     take_types(types, base, count);
     give_types(types, base, given)

@@ -1,24 +1,21 @@
 -- What the lines of a script tell of a program fits a plan.
-use Rattle.std.proofs.Common.{pow_pos, option_map, ◌==◌, ◌∙◌, arith, ◌≡◌, ℕ, ◌+◌, ◌-◌, ◌*◌, ◌<◌, ◌≤◌, ◌^◌, ◌&&◌, nat_le, Bool}
-use Rattle.std.proofs.Common.{true, false, Option, Some, None, Ok, Err, List, [], ◌∷◌, length, subst, refl, if◌then◌else◌, codes, All}
+use Rattle.std.proofs.Common.{pow_pos, option_map, ◌==◌, ◌∙◌, arith, ◌≡◌, ℕ, ◌+◌, ◌-◌, ◌*◌, ◌<◌, ◌≤◌, ◌^◌, ◌&&◌, nat_le, Bool, true, false, Option, Some, None, Ok, Err, List, [], ◌∷◌, length, subst, refl, if◌then◌else◌, codes, All}
+use Rattle.std.specs.Option.{option_or}
 use Rattle.std.specs.Str.{bytes_eq}
 use Rattle.std.proofs.lemmas.Bool.{leb-true}
 use Rattle.std.proofs.lemmas.List.Elements.{All-nil, All-cons, All-weaker}
 use Rattle.wa_types.specs.Sizes.{value_fits}
 use Rattle.wa_types.specs.declared.values.Value.{Value}
 use Rattle.wa_types.specs.declared.values.Value.TheVariants as V
-use Rattle.wa_model.specs.Command.{behind}
-use Rattle.wa_model.specs.Plan.{AnswerFits, PokeFits, ValueFits}
+use Rattle.script_model.specs.Command.{behind}
+use Rattle.wa_model.specs.declared.answers.Said.{Said}
+use Rattle.wa_model.specs.declared.answers.Said.TheVariants as S
+use Rattle.wa_model.specs.Plan.{AnswerFits, PokeFits, SaidFits}
 use Rattle.wa_model.specs.Outside.{Poke}
-use Rattle.wa_model.specs.ScriptLines.{Statement, begins_program, lists_imports, ignores_imports, saves, has_area, has_steps, sets_global, binds, enters, answers, shows, detaches}
-use Rattle.wa_model.specs.ScriptLines.{Keyword, program_word, imports_word, ignore_imports_word, save_word, area_word, steps_word}
-use Rattle.wa_model.specs.ScriptLines.{global_word, device_word, enter_word, answer_word, show_word, detach_word}
-use Rattle.wa_model.specs.ScriptLines as L
-use Rattle.wa_model.specs.ScriptLines.{Said, PokeWords, hex_value, joined_digits, hex_bytes, hex_in, if_within, number_in, number_within, integer_in}
-use Rattle.wa_model.specs.ScriptLines.{negative, i32_in, i64_in, u32_in, all_values, value_in, unless_none, says_two, says_policy}
-use Rattle.wa_model.specs.ScriptLines.{pokes_in, poke_of, all_pokes, result_in, answer_with, says_answer, says, says_with, keyword_in, words_say, line_words, line_says}
-use Rattle.many_host.specs.Answering.{IsShort}
-use Rattle.many_host.specs.Moves.{HasShortPokes}
+use Rattle.script_model.specs.ScriptLines.{Statement, begins_program, lists_imports, ignores_imports, saves, has_area, has_steps, sets_global, binds, enters, answers, shows, detaches, begins_strand, Keyword, program_word, imports_word, ignore_imports_word, save_word, area_word, steps_word, global_word, device_word, enter_word, answer_word, show_word, detach_word, mailbox_word, strand_word, Meaning, PokeWords, hex_value, joined_digits, hex_bytes, hex_in, if_within, number_in, number_within, integer_in, negative, i32_in, i64_in, u32_in, all_values, value_in, unless_none, says_two, says_policy, pokes_in, poke_of, all_pokes, result_in, answer_with, says_answer, says, says_with, keyword_in, words_say, line_words, line_says}
+use Rattle.script_model.specs.ScriptLines as L
+use Rattle.host_laws.specs.Answering.{IsShort}
+use Rattle.pause_host.specs.Moves.{HasShortPokes}
 
 -- ---- what a statement tells
 
@@ -29,9 +26,9 @@ SaysFit (enters name args) = All value_fits args
 SaysFit (answers line) = HasShortPokes line × AnswerFits line.answer
 SaysFit _ = Unit {0}
 
-abbrev SaidFits : Said → Type 0
-SaidFits (Ok s) = SaysFit s
-SaidFits (Err rule) = Unit {0}
+abbrev MeaningFits : Meaning → Type 0
+MeaningFits (Ok s) = SaysFit s
+MeaningFits (Err rule) = Unit {0}
 
 -- ---- numbers
 
@@ -45,23 +42,23 @@ within_bounds least most (Some m) n e = by (nat_le least m) refl (nat_le m most)
   by true ha false hb k = cc
   by false ha b hb k = cc
 
-steps_said : (o : Option ℕ) → ((n : ℕ) → o ≡ Some n → SaysFit (has_steps n)) → SaidFits (unless_none (λ n. Ok (has_steps n)) o)
+steps_said : (o : Option ℕ) → ((n : ℕ) → o ≡ Some n → SaysFit (has_steps n)) → MeaningFits (unless_none (λ n. Ok (has_steps n)) o)
 steps_said None h = tt
 steps_said (Some n) h = h n refl
 
-said_unless : {A : Type 0} (told : A → Said) (o : Option A) → ((x : A) → o ≡ Some x → SaidFits (told x)) → SaidFits (unless_none told o)
+said_unless : {A : Type 0} (told : A → Meaning) (o : Option A) → ((x : A) → o ≡ Some x → MeaningFits (told x)) → MeaningFits (unless_none told o)
 said_unless told None h = tt
 said_unless told (Some x) h = h x refl
 
-two_said : (told : ℕ → ℕ → Statement) (a b : Option ℕ) → ((x y : ℕ) → SaysFit (told x y)) → SaidFits (says_two told a b)
+two_said : (told : ℕ → ℕ → Statement) (a b : Option ℕ) → ((x y : ℕ) → SaysFit (told x y)) → MeaningFits (says_two told a b)
 two_said told (Some x) (Some y) h = h x y
 two_said told (Some x) None h = tt
 two_said told None (Some y) h = tt
 two_said told None None h = tt
 
-policy_said : (word : List ℕ) → SaidFits (says_policy word)
+policy_said : (word : List ℕ) → MeaningFits (says_policy word)
 policy_said word = by (bytes_eq word (codes "all")) (bytes_eq word (codes "live")) where
-  by : (a b : Bool) → SaidFits (if a then Ok (saves false) else (if b then Ok (saves true) else Err 3))
+  by : (a b : Bool) → MeaningFits (if a then Ok (saves false) else (if b then Ok (saves true) else Err 3))
   by true b = tt
   by false true = tt
   by false false = tt
@@ -109,7 +106,7 @@ wide_fits (Some digits) v e = by (integer_in 64 digits) refl e where
 
 told_value : (word : List ℕ) (v : Value) → value_in word ≡ Some v → value_fits v
 told_value word v e = by (i32_in (behind (codes "i32:") word)) refl e where
-  by : (o : Option Value) → i32_in (behind (codes "i32:") word) ≡ o → L.or_else o (i64_in (behind (codes "i64:") word)) ≡ Some v → value_fits v
+  by : (o : Option Value) → i32_in (behind (codes "i32:") word) ≡ o → option_or o (i64_in (behind (codes "i64:") word)) ≡ Some v → value_fits v
   by (Some x) is k = narrow_fits (behind (codes "i32:") word) v (is ∙ k)
   by None is k = wide_fits (behind (codes "i64:") word) v k
 
@@ -127,19 +124,22 @@ told_values (word ∷ words) vs e = by (value_in word) (all_values words) refl r
   by None (Some more) one is k rest = cc
   by None None one is k rest = cc
 
-result_fits : (word : List ℕ) (v : Option Value) → result_in word ≡ Some v → ValueFits v
-result_fits word v e = by (bytes_eq word (codes "none")) e where
-  some : (o : Option Value) → value_in word ≡ o → option_map (λ (x : Value). Some x) o ≡ Some v → ValueFits v
+result_fits : (word : List ℕ) (said : Said) → result_in word ≡ Some said → SaidFits said
+result_fits word said e = by (bytes_eq word (codes "none")) (bytes_eq word (codes "trap")) e where
+  some : (o : Option Value) → value_in word ≡ o → option_map (λ (x : Value). S.Value (Some x)) o ≡ Some said → SaidFits said
   some None is k = cc
   some (Some x) is k =
-      let same : Some x ≡ v = cc in
-      subst ValueFits same (told_value word x is)
+      let same : S.Value (Some x) ≡ said = cc in
+      subst SaidFits same (told_value word x is)
 
-  by : (b : Bool) → (if b then Some None else option_map (λ (x : Value). Some x) (value_in word)) ≡ Some v → ValueFits v
-  by true k =
-      let same : None ≡ v = cc in
-      subst ValueFits same tt
-  by false k = some (value_in word) refl k
+  by : (a b : Bool) → (if a then Some (S.Value None) else if b then Some S.Trap else option_map (λ (x : Value). S.Value (Some x)) (value_in word)) ≡ Some said → SaidFits said
+  by true b k =
+      let same : S.Value None ≡ said = cc in
+      subst SaidFits same tt
+  by false true k =
+      let same : S.Trap ≡ said = cc in
+      subst SaidFits same tt
+  by false false k = some (value_in word) refl k
 
 short_number : (word : List ℕ) (n : ℕ) → u32_in word ≡ Some n → n < 2 ^ 32
 short_number word n e =
@@ -270,34 +270,34 @@ pokes_told (p ∷ ps) qs e = by (poke_of (u32_in p.at) (hex_in p.bytes)) (all_po
   by None (Some more) one is k rest = cc
   by None None one is k rest = cc
 
-answer_said : (name : List ℕ) (result : Option (Option Value)) (ticks : Option ℕ) (pokes : Option (List Poke)) → ((v : Option Value) → result ≡ Some v → ValueFits v)
+answer_said : (name : List ℕ) (result : Option Said) (ticks : Option ℕ) (pokes : Option (List Poke)) → ((said : Said) → result ≡ Some said → SaidFits said)
     → ((n : ℕ) → ticks ≡ Some n → n < 2 ^ 32)
-    → ((qs : List Poke) → pokes ≡ Some qs → All IsPoke qs) → SaidFits (L.answer_of name result ticks pokes)
-answer_said name (Some v) (Some n) (Some qs) r t h =
-    (All-weaker IsPoke IsShort (λ p k. k.short) qs (h qs refl), record { value = r v refl; pokes = All-weaker IsPoke PokeFits (λ p k. k.fits) qs (h qs refl); ticks = t n refl })
-answer_said name (Some v) (Some n) None r t h = tt
-answer_said name (Some v) None (Some qs) r t h = tt
-answer_said name (Some v) None None r t h = tt
+    → ((qs : List Poke) → pokes ≡ Some qs → All IsPoke qs) → MeaningFits (L.answer_of name result ticks pokes)
+answer_said name (Some said) (Some n) (Some qs) r t h =
+    (All-weaker IsPoke IsShort (λ p k. k.short) qs (h qs refl), record { said = r said refl; pokes = All-weaker IsPoke PokeFits (λ p k. k.fits) qs (h qs refl); ticks = t n refl })
+answer_said name (Some said) (Some n) None r t h = tt
+answer_said name (Some said) None (Some qs) r t h = tt
+answer_said name (Some said) None None r t h = tt
 answer_said name None (Some n) (Some qs) r t h = tt
 answer_said name None (Some n) None r t h = tt
 answer_said name None None (Some qs) r t h = tt
 answer_said name None None None r t h = tt
 
-with_said : (name result ticks : List ℕ) (o : Option (List PokeWords)) → SaidFits (answer_with name result ticks o)
+with_said : (name result ticks : List ℕ) (o : Option (List PokeWords)) → MeaningFits (answer_with name result ticks o)
 with_said name result ticks None = tt
 with_said name result ticks (Some pokes) = answer_said name (result_in result) (u32_in ticks) (all_pokes pokes) (result_fits result) (short_number ticks) (pokes_told pokes)
 
-answers_said : (name result : List ℕ) (words : List (List ℕ)) → SaidFits (says_answer name result words)
+answers_said : (name result : List ℕ) (words : List (List ℕ)) → MeaningFits (says_answer name result words)
 answers_said name result [] = with_said name result (codes "0") (pokes_in [])
 answers_said name result (k ∷ []) = with_said name result (codes "0") (pokes_in (k ∷ []))
 answers_said name result (k ∷ n ∷ more) = by (bytes_eq k (codes "ticks")) where
-  by : (b : Bool) → SaidFits (if b then answer_with name result n (pokes_in more) else answer_with name result (codes "0") (pokes_in (k ∷ n ∷ more)))
+  by : (b : Bool) → MeaningFits (if b then answer_with name result n (pokes_in more) else answer_with name result (codes "0") (pokes_in (k ∷ n ∷ more)))
   by true = with_said name result n (pokes_in more)
   by false = with_said name result (codes "0") (pokes_in (k ∷ n ∷ more))
 
 -- ---- lines
 
-said_fits : (k : Keyword) (words : List (List ℕ)) → SaidFits (says k words)
+said_fits : (k : Keyword) (words : List (List ℕ)) → MeaningFits (says k words)
 said_fits program_word [] = tt
 said_fits program_word (a ∷ []) = tt
 said_fits program_word (a ∷ b ∷ more) = tt
@@ -337,8 +337,15 @@ said_fits detach_word [] = tt
 said_fits detach_word (a ∷ []) = tt
 said_fits detach_word (a ∷ b ∷ []) = said_unless (λ n. Ok (detaches a n)) (number_within 1 (2 ^ 64 - 1) b) (λ n e. tt)
 said_fits detach_word (a ∷ b ∷ c ∷ more) = tt
+said_fits mailbox_word [] = tt
+said_fits mailbox_word (a ∷ []) = tt
+said_fits mailbox_word (a ∷ b ∷ more) = tt
+said_fits strand_word [] = tt
+said_fits strand_word (a ∷ []) = tt
+said_fits strand_word (a ∷ b ∷ []) = two_said begins_strand (u32_in a) (u32_in b) (λ x y. tt)
+said_fits strand_word (a ∷ b ∷ c ∷ more) = tt
 
-said_with : (k : Option Keyword) (words : List (List ℕ)) → SaidFits (says_with k words)
+said_with : (k : Option Keyword) (words : List (List ℕ)) → MeaningFits (says_with k words)
 said_with None words = tt
 said_with (Some k) words = said_fits k words
 
@@ -346,7 +353,7 @@ words_fit : (o : Option (List (List ℕ))) (s : Statement) → words_say o ≡ O
 words_fit None s e = cc
 words_fit (Some []) s e = cc
 words_fit (Some (word ∷ words)) s e = by (says_with (keyword_in word) words) (said_with (keyword_in word) words) e where
-  by : (r : Said) → SaidFits r → L.told r ≡ Ok (Some s) → SaysFit s
+  by : (r : Meaning) → MeaningFits r → L.told r ≡ Ok (Some s) → SaysFit s
   by (Ok s') h k =
       let same : s' ≡ s = cc in
       subst SaysFit same h

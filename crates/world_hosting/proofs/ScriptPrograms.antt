@@ -1,28 +1,26 @@
 -- Each program of a script fits a plan.
 use Rattle.std.proofs.Common.{arith, ◌≡◌, ℕ, suc, ◌+◌, ◌<◌, ◌≤◌, ◌^◌, ◌==◌, Bool, true, false, Option, Some, None, Result, Ok, Err, List, [], ◌∷◌, length, ap, subst, refl, if◌then◌else◌, All}
 use Rattle.std.specs.Option.{unwrap_or}
-use Rattle.std.specs.List.{slice_get, cons_option, slice_split}
+use Rattle.std.specs.List.{slice_get, slice_split}
 use Rattle.std.specs.Str.Lines.{lines, lines_of_parts}
+use Rattle.std.proofs.lemmas.List.{length-map}
 use Rattle.std.proofs.lemmas.List.Elements.{All-nil, All-cons, All-head, All-tail, All-weaker}
 use Rattle.std.proofs.lemmas.List.Splits.{length-slice_split}
 use Rattle.std.proofs.lemmas.List.Sums.{count_by-le-length}
 use Rattle.wa_model.specs.Outside.{AnswerLine}
-use Rattle.wa_model.specs.Script.{EntryText, GlobalText, ProgramText, Script, ScriptFault}
-use Rattle.wa_model.specs.ScriptLines.{Statement, begins_program, lists_imports, ignores_imports, saves, has_area, has_steps, sets_global, binds, enters, answers, shows, detaches, line_says}
-use Rattle.wa_model.specs.ScriptText.{Numbered, Group, Grouped, AreaText, fault_of, unless_fault, with_line, statements, grouped_with, grouped}
-use Rattle.wa_model.specs.ScriptText.{default_steps, steps_of, entry_of, global_of, answer_of, area_of, detach_of, told_by}
-use Rattle.wa_model.specs.ScriptText.{lines_by, program_of, with_program, programs_of, with_programs, script_of, script_text}
-use Rattle.wa_types.specs.Sizes.{value_fits}
+use Rattle.script_model.specs.Script.{ProgramText, Script, ScriptFault, strand_line}
+use Rattle.script_model.specs.ScriptLines.{Statement, begins_program, lists_imports, ignores_imports, saves, has_area, has_steps, sets_global, binds, enters, answers, shows, detaches, has_mailbox, begins_strand, line_says}
+use Rattle.script_model.specs.ScriptText.{Numbered, Group, Grouped, AreaText, fault_of, unless_fault, with_line, statements, grouped_with, grouped, default_steps, steps_of, entry_of, global_of, answer_of, area_of, detach_of, mailbox_of, told_by, lines_by, stranded, strand_of, program_of, with_program, mixed_line, unless_mixed, programs_of, with_programs, script_of, script_text}
 use Rattle.wa_model.specs.Plan.{AnswerFits}
-use Rattle.many_host.specs.Moves.{HasShortPokes}
-use Rattle.world_hosting.specs.Worlds.{FitsPlan, HasRanges}
+use Rattle.pause_host.specs.Moves.{HasShortPokes}
+use Rattle.script_setup.specs.SetUpRules.{entries_in}
+use Rattle.world_hosting.specs.Worlds.{FitsPlan, FitsStrand, HasRanges, HasStrandRanges}
 use Rattle.world_hosting.specs.Laws.{ScriptsFit, ScriptsInRange}
 use Rattle.world_hosting.proofs.ScriptPlans.{SaysFit, line_fits}
+use Rattle.world_hosting.proofs.ScriptStrands.{HasFewStrands, StrandFits, entries_are, few_strands, first_entries, parts_fit}
+use Rattle.world_hosting.proofs.StatementsTold.{NumberedFits, AnswerOk, EntryOk, GlobalOk, IsSteps, told_all, lines_all, lines_few, steps_told, answer_told, entry_told, global_told}
 
 -- ---- statements
-
-abbrev NumberedFits : Numbered → Type 0
-NumberedFits n = SaysFit n.says
 
 record StatementsFit (ls : List (List ℕ)) (ss : List Numbered) : Type 0 where
   few : length ss ≤ length ls
@@ -88,6 +86,8 @@ one_grouped most count line (enters name args) g h le f = first_more most count 
 one_grouped most count line (answers answer) g h le f = first_more most count line (answers answer) g h f
 one_grouped most count line (shows at len) g h le f = first_more most count line (shows at len) g h f
 one_grouped most count line (detaches device before) g h le f = first_more most count line (detaches device before) g h f
+one_grouped most count line (has_mailbox name) g h le f = first_more most count line (has_mailbox name) g h f
+one_grouped most count line (begins_strand at len) g h le f = first_more most count line (begins_strand at len) g h f
 
 grouped_fits : (most : ℕ) (ss : List Numbered) → length ss ≤ most → All NumberedFits ss → GroupedFits most (length ss) (grouped ss)
 grouped_fits most [] le h = record { few = omega arith; first = All-nil NumberedFits; groups = All-nil (GroupFits most) }
@@ -95,107 +95,6 @@ grouped_fits most (s ∷ ss) le h =
     one_grouped most (length ss) s.line s.says (grouped ss) (All-head NumberedFits s ss h) (omega (arith, le)) (grouped_fits most ss (omega (arith, le)) (All-tail NumberedFits s ss h))
 
 -- ---- programs
-
--- what fitting statements tell has P
-told_all : {A : Type 0} (P : A → Type 0) (tells : Statement → Option A) → ((s : Statement) (x : A) → SaysFit s → tells s ≡ Some x → P x) → (ss : List Numbered) → All NumberedFits ss
-    → All P (told_by tells ss)
-told_all P tells f [] h = All-nil P
-told_all P tells f (s ∷ ss) h = by (tells s.says) refl (told_all P tells f ss (All-tail NumberedFits s ss h)) where
-  by : (o : Option _) → tells s.says ≡ o → All P (told_by tells ss) → All P (cons_option o (told_by tells ss))
-  by None is more = more
-  by (Some x) is more = All-cons P x (told_by tells ss) (f s.says x (All-head NumberedFits s ss h) is) more
-
-lines_all : {A : Type 0} (P : A → Type 0) (tells : ℕ → Statement → Option A) → ((line : ℕ) (s : Statement) (x : A) → SaysFit s → tells line s ≡ Some x → P x) → (ss : List Numbered)
-    → All NumberedFits ss
-    → All P (lines_by tells ss)
-lines_all P tells f [] h = All-nil P
-lines_all P tells f (s ∷ ss) h = by (tells s.line s.says) refl (lines_all P tells f ss (All-tail NumberedFits s ss h)) where
-  by : (o : Option _) → tells s.line s.says ≡ o → All P (lines_by tells ss) → All P (cons_option o (lines_by tells ss))
-  by None is more = more
-  by (Some x) is more = All-cons P x (lines_by tells ss) (f s.line s.says x (All-head NumberedFits s ss h) is) more
-
-lines_few : {A : Type 0} (tells : ℕ → Statement → Option A) (ss : List Numbered) → length (lines_by tells ss) ≤ length ss
-lines_few tells [] = omega arith
-lines_few tells (s ∷ ss) = by (tells s.line s.says) (lines_few tells ss) where
-  by : (o : Option _) → length (lines_by tells ss) ≤ length ss → length (cons_option o (lines_by tells ss)) ≤ length (s ∷ ss)
-  by None more = omega (arith, more)
-  by (Some x) more = omega (arith, more)
-
-abbrev IsSteps : ℕ → Type 0
-IsSteps n = (1 ≤ n) × (n ≤ 1000000000)
-
-steps_told : (s : Statement) (n : ℕ) → SaysFit s → steps_of s ≡ Some n → IsSteps n
-steps_told (has_steps k) n h e =
-    let same : k ≡ n = cc in
-    subst IsSteps same h
-steps_told (begins_program path) n h e = cc
-steps_told (lists_imports list) n h e = cc
-steps_told ignores_imports n h e = cc
-steps_told (saves live) n h e = cc
-steps_told (has_area at len) n h e = cc
-steps_told (sets_global name value) n h e = cc
-steps_told (binds import device) n h e = cc
-steps_told (enters name args) n h e = cc
-steps_told (answers answer) n h e = cc
-steps_told (shows at len) n h e = cc
-steps_told (detaches device before) n h e = cc
-
-abbrev AnswerOk : AnswerLine → Type 0
-AnswerOk a = HasShortPokes a × AnswerFits a.answer
-
-answer_told : (s : Statement) (a : AnswerLine) → SaysFit s → answer_of s ≡ Some a → AnswerOk a
-answer_told (answers answer) a h e =
-    let same : answer ≡ a = cc in
-    subst AnswerOk same h
-answer_told (has_steps k) a h e = cc
-answer_told (begins_program path) a h e = cc
-answer_told (lists_imports list) a h e = cc
-answer_told ignores_imports a h e = cc
-answer_told (saves live) a h e = cc
-answer_told (has_area at len) a h e = cc
-answer_told (sets_global name value) a h e = cc
-answer_told (binds import device) a h e = cc
-answer_told (enters name args) a h e = cc
-answer_told (shows at len) a h e = cc
-answer_told (detaches device before) a h e = cc
-
-abbrev GlobalOk : GlobalText → Type 0
-GlobalOk g = value_fits g.value
-
-global_told : (line : ℕ) (s : Statement) (g : GlobalText) → SaysFit s → global_of line s ≡ Some g → GlobalOk g
-global_told line (sets_global n v) g h e =
-    let same : ◌≡◌ {A = GlobalText} (record { line = line; name = n; value = v }) g = cc in
-    subst GlobalOk same h
-global_told line (begins_program path) g h e = cc
-global_told line (lists_imports list) g h e = cc
-global_told line ignores_imports g h e = cc
-global_told line (saves live) g h e = cc
-global_told line (has_area at len) g h e = cc
-global_told line (has_steps k) g h e = cc
-global_told line (binds import device) g h e = cc
-global_told line (enters n args) g h e = cc
-global_told line (answers answer) g h e = cc
-global_told line (shows at len) g h e = cc
-global_told line (detaches device before) g h e = cc
-
-abbrev EntryOk : EntryText → Type 0
-EntryOk y = All value_fits y.args
-
-entry_told : (line : ℕ) (s : Statement) (y : EntryText) → SaysFit s → entry_of line s ≡ Some y → EntryOk y
-entry_told line (enters n args) y h e =
-    let same : ◌≡◌ {A = EntryText} (record { line = line; name = n; args = args }) y = cc in
-    subst EntryOk same h
-entry_told line (begins_program path) y h e = cc
-entry_told line (lists_imports list) y h e = cc
-entry_told line ignores_imports y h e = cc
-entry_told line (saves live) y h e = cc
-entry_told line (has_area at len) y h e = cc
-entry_told line (has_steps k) y h e = cc
-entry_told line (sets_global n v) y h e = cc
-entry_told line (binds import device) y h e = cc
-entry_told line (answers answer) y h e = cc
-entry_told line (shows at len) y h e = cc
-entry_told line (detaches device before) y h e = cc
 
 first_or : (ns : List ℕ) → All IsSteps ns → IsSteps (unwrap_or (slice_get ns 0) default_steps)
 first_or [] h = (omega arith, omega arith)
@@ -206,39 +105,49 @@ record ProgramFits (most : ℕ) (t : ProgramText) : Type 0 where
   plan : most < 2 ^ 32 → FitsPlan t
   ranges : HasRanges t
 
-program_fits : (most : ℕ) (g : Group) (a : AreaText) → GroupFits most g → ProgramFits most (program_of g a)
-program_fits most g a f =
+program_fits : (most : ℕ) (g : Group) (a : AreaText) → GroupFits most g → HasFewStrands g → ProgramFits most (program_of g a)
+program_fits most g a f few =
     let steps = first_or (told_by steps_of g.told) (told_all IsSteps steps_of steps_told g.told f.fit) in
-    let few = lines_few entry_of g.told in
-    let answers = told_all AnswerOk answer_of answer_told g.told f.fit in
+    let parts = parts_fit most g.told f.few f.fit in
+    let answers = told_all AnswerOk answer_of answer_told (stranded g.told).first parts.first in
+    let lines = lines_few entry_of g.told in
+    let count = length-map (stranded g.told).strands strand_of in
+    let own = first_entries (program_of g a).entries (program_of g a).strands in
+    let all : length (entries_in (program_of g a)) ≡ length (lines_by entry_of g.told) = ap length (entries_are g.told) in
     record {
       plan = λ le. record {
         some_steps = steps.0;
         few_steps = steps.1;
-        entries = omega (arith, few, f.few, le);
-        pokes = All-weaker AnswerOk HasShortPokes (λ l k. k.0) (told_by answer_of g.told) answers;
+        entries = omega (arith, own, all, lines, f.few, le);
+        pokes = All-weaker AnswerOk HasShortPokes (λ l k. k.0) (told_by answer_of (stranded g.told).first) answers;
+        few = omega (arith, few, count);
+        all = omega (arith, all, lines, f.few, le);
+        strands = All-weaker (StrandFits most) FitsStrand (λ s k. k.plan le) (program_of g a).strands parts.strands;
       };
       ranges = record {
         globals = lines_all GlobalOk global_of global_told g.told f.fit;
-        entries = lines_all EntryOk entry_of entry_told g.told f.fit;
-        answers = All-weaker AnswerOk (λ (l : AnswerLine). AnswerFits l.answer) (λ l k. k.1) (told_by answer_of g.told) answers;
+        entries = lines_all EntryOk entry_of entry_told (stranded g.told).first parts.first;
+        answers = All-weaker AnswerOk (λ (l : AnswerLine). AnswerFits l.answer) (λ l k. k.1) (told_by answer_of (stranded g.told).first) answers;
+        strands = All-weaker (StrandFits most) HasStrandRanges (λ s k. k.ranges) (program_of g a).strands parts.strands;
       };
     }
 
-programs_fit : (most : ℕ) (gs : List Group) (programs : List ProgramText) → All (GroupFits most) gs → programs_of gs ≡ Ok programs → All (ProgramFits most) programs
-programs_fit most [] programs h e =
+programs_fit : (most : ℕ) (gs : List Group) (programs : List ProgramText) → All (GroupFits most) gs → All HasFewStrands gs → programs_of gs ≡ Ok programs
+    → All (ProgramFits most) programs
+programs_fit most [] programs h few e =
     let same : [] ≡ programs = cc in
     subst (All (ProgramFits most)) same (All-nil (ProgramFits most))
-programs_fit most (g ∷ gs) programs h e = by (slice_get (lines_by area_of g.told) 0) (programs_of gs) refl e (programs_fit most gs) where
+programs_fit most (g ∷ gs) programs h few e = by (slice_get (lines_by area_of g.told) 0) (programs_of gs) refl e (programs_fit most gs) where
   by : (o : Option AreaText) (r : Result (List ProgramText) ScriptFault) → programs_of gs ≡ r → with_program g o r ≡ Ok programs
-      → ((more : List ProgramText) → All (GroupFits most) gs → programs_of gs ≡ Ok more → All (ProgramFits most) more) → All (ProgramFits most) programs
+      → ((more : List ProgramText) → All (GroupFits most) gs → All HasFewStrands gs → programs_of gs ≡ Ok more → All (ProgramFits most) more) → All (ProgramFits most) programs
   by None (Ok more) is k rest = cc
   by None (Err f) is k rest = cc
   by (Some a) (Err f) is k rest = cc
   by (Some a) (Ok more) is k rest =
       let same : program_of g a ∷ more ≡ programs = cc in
       subst (All (ProgramFits most)) same
-      (All-cons (ProgramFits most) (program_of g a) more (program_fits most g a (All-head (GroupFits most) g gs h)) (rest more (All-tail (GroupFits most) g gs h) is))
+      (All-cons (ProgramFits most) (program_of g a) more (program_fits most g a (All-head (GroupFits most) g gs h) (All-head HasFewStrands g gs few))
+      (rest more (All-tail (GroupFits most) g gs h) (All-tail HasFewStrands g gs few) is))
 
 -- ---- lines
 
@@ -265,18 +174,25 @@ abbrev programs_in : Result Script ScriptFault → List ProgramText
 programs_in (Ok x) = x.programs
 programs_in (Err f) = []
 
+-- a script that has no mailbox beside a strand
+programs_kept : (o : Option ℕ) (x s : Script) → unless_mixed o x ≡ Ok s → x.programs ≡ s.programs
+programs_kept None x s e = ap programs_in e
+programs_kept (Some line) x s e = cc
+
 script_fits : (ls : List (List ℕ)) (r : Result (List Numbered) ScriptFault) → statements 1 [] ls ≡ r → (s : Script) → script_of r ≡ Ok s → All (ProgramFits (length ls)) s.programs
 script_fits ls (Err f) is s e = cc
 script_fits ls (Ok ss) is s e = by (programs_of (grouped ss).groups) refl e where
   told : StatementsFit ls ss
   told = statements_fit ls 1 [] ss is
 
-  by : (r : Result (List ProgramText) ScriptFault) → programs_of (grouped ss).groups ≡ r → with_programs (told_by detach_of ss) r ≡ Ok s → All (ProgramFits (length ls)) s.programs
+  by : (r : Result (List ProgramText) ScriptFault) → programs_of (grouped ss).groups ≡ r → with_programs (told_by detach_of ss) (lines_by mailbox_of ss) r ≡ Ok s → All (ProgramFits (length ls)) s.programs
   by (Err f) are k = cc
   by (Ok programs) are k =
-      let same : programs ≡ s.programs = ap programs_in k in
+      let whole : Script = record { programs = programs; detaches = told_by detach_of ss; mailboxes = lines_by mailbox_of ss } in
+      let same : programs ≡ s.programs = programs_kept (mixed_line (lines_by mailbox_of ss) (strand_line whole)) whole s k in
       let few = told.few in
-      subst (All (ProgramFits (length ls))) same (programs_fit (length ls) (grouped ss).groups programs (grouped_fits (length ls) ss few told.fit).groups are)
+      subst (All (ProgramFits (length ls))) same
+      (programs_fit (length ls) (grouped ss).groups programs (grouped_fits (length ls) ss few told.fit).groups (few_strands ls 1 [] ss (omega arith) is).groups are)
 
 fits_of_text : (bytes : List ℕ) (s : Script) → script_text bytes ≡ Ok s → All (ProgramFits (length (lines bytes))) s.programs
 unfolding script_text

@@ -1,40 +1,57 @@
 -- A program that is set up begins the story of the program that it is in a world.
-use Rattle.std.proofs.Common.{◌≡◌, ◌≤◌, ℕ, List, [], length, map, All, Bool, Result, Ok, arith, sym, ap, ◌∙◌, subst}
+use Rattle.std.proofs.Common.{◌≡◌, ◌≤◌, ℕ, List, [], length, map, All, Bool, Option, Result, Ok, arith, refl, sym, ap, ◌∙◌, subst}
 use Rattle.std.specs.Prelude.{slice_get, None}
 use Rattle.std.specs.Option.{unwrap_or}
 use Rattle.wa_types.specs.declared.values.Value.{Value}
 use Rattle.std.proofs.lemmas.List.{length-map}
 use Rattle.wa_types.specs.Syntax.{Module}
 use Rattle.wa_model.specs.declared.answers.Area.{Area}
-use Rattle.wa_model.specs.Fitting.{types_of}
+use Rattle.run_theory.specs.Fitting.{types_of}
 use Rattle.wa_model.specs.Outside.{AnswerLine}
-use Rattle.wa_model.specs.Plan.{Entry}
-use Rattle.wa_model.specs.Script.{ProgramText}
+use Rattle.script_model.specs.Script.{EntryText, ProgramText}
 use Rattle.wa_model.specs.View.{answer_line_of}
-use Rattle.wa_model.specs.World as W
+use Rattle.world_model.specs.World as W
+use Rattle.world_model.specs.World.{at_start}
 use Rattle.host_setup.specs.SetUp.{NamedEntry, Fault, set_up}
-use Rattle.host_setup.specs.Views.{entry_of as named_entry_of}
-use Rattle.many_host.specs.Moves.{HasShortPokes}
-use Rattle.many_host.specs.Plan.{Plan}
-use Rattle.many_host.specs.Program.{Program}
-use Rattle.many_host.specs.Programs.{Follows, IsPlan, SetsUp, lines_left, named_entries, source_of}
-use Rattle.many_host.specs.Programs as P
-use Rattle.many_host.specs.Settings.{calls_of}
+use Rattle.host_setup.specs.Views.{Blames, entry_of as named_entry_of}
+use Rattle.host_setup.specs.declared.faults.SetupFault.{SetupFault}
+use Rattle.host_setup.specs.declared.faults.SetupFault.TheVariants.{Memory, AreaBad, NoExports, EntryMissing, EntryIsImport, ArgTypes}
+use Rattle.pause_host.specs.Moves.{HasShortPokes}
+use Rattle.pause_host.specs.declared.plan.Plan.{Plan}
+use Rattle.pause_host.specs.declared.program.Program.{Program}
+use Rattle.pause_host.specs.Programs.{BindsAs, Follows, IsPlan, SetsUp, lines_left, named_entries, receive_in, source_of}
+use Rattle.pause_host.specs.Programs as P
+use Rattle.pause_host.specs.Settings.{calls_of}
 use Rattle.script_setup.specs.declared.setting.SetUp.{SetUp as SetUpValue}
-use Rattle.script_setup.specs.SetUpRules.{named_entry, set_up_rules}
+use Rattle.script_setup.specs.SetUpRules.{entries_in, named_entry, set_up_rules}
 use Rattle.script_setup.specs.Views.{set_up_of}
 use Rattle.script_setup.proofs.GlobalTypes.{given_by_rules}
-use Rattle.device_bindings.specs.Bindings.{bindings}
-use Rattle.world_hosting.specs.Worlds.{FitsPlan, IsListing, look_at, part, world_program}
-use Rattle.world_hosting.specs.Views.{Suits, listing}
-use Rattle.device_bindings.proofs.Bound.{bound_each}
+use Rattle.script_setup.proofs.WithoutStrands.{entries_alone, funcs_alone}
+use Rattle.script_setup.specs.Bindings.{bindings}
+use Rattle.world_hosting.specs.declared.staging.ScriptPlan.{ScriptPlan}
+use Rattle.world_hosting.specs.Worlds.{FitsPlan, IsListing, Part, look_at, world_program}
+use Rattle.world_hosting.specs.Views.{IsPlanned, Suits, listing}
+use Rattle.script_setup.proofs.Bound.{bound_each}
 
--- what is made by the rules suits
-pub suits_by_rules : (runs : Bool) (p : Module) (t : ProgramText) (made : SetUpValue) → set_up_rules runs p t ≡ Ok (set_up_of made)
-    → map named_entry_of made.entries.items ≡ map named_entry t.entries → Suits p t made
-suits_by_rules runs p t made e entries =
-    let given = given_by_rules runs p t (set_up_of made) e in
-    record { entries = entries; funcs = given.funcs; globals = given.globals }
+-- what is made by the rules suits, where the program has no further strands
+pub suits_by_rules : (runs : Bool) (boxes : List (List ℕ)) (p : Module) (t : ProgramText) (made : SetUpValue) → t.strands ≡ [] → set_up_rules runs boxes p t ≡ Ok (set_up_of made)
+    → map named_entry_of made.entries.items ≡ map named_entry (entries_in t) → Suits p t made
+suits_by_rules runs boxes p t made alone e entries =
+    let given = given_by_rules runs boxes p t (set_up_of made) e in
+    record {
+      entries = entries ∙ ap (λ (es : List EntryText). map named_entry es) (entries_alone t alone);
+      funcs = funcs_alone t alone runs boxes p (set_up_of made) e;
+      globals = given.globals;
+    }
+
+-- the one fault of a plan that has none
+pub blames_memory : (fault : SetupFault) (funcs : List ℕ) → Blames fault (Ok funcs) → (fault ≡ Memory → ⊥) → ⊥
+blames_memory Memory funcs h other = other refl
+blames_memory AreaBad funcs h other = cc
+blames_memory (NoExports name) funcs h other = cc
+blames_memory (EntryMissing entry) funcs h other = cc
+blames_memory (EntryIsImport entry) funcs h other = cc
+blames_memory (ArgTypes entry) funcs h other = cc
 
 -- The plan is made of the script's program and of what it is given.
 pub record IsPlanOf (t : ProgramText) (made : SetUpValue) (x : Plan) : Type 0 where
@@ -46,7 +63,7 @@ pub record IsPlanOf (t : ProgramText) (made : SetUpValue) (x : Plan) : Type 0 wh
   pub binds : x.binds.items ≡ bindings (source_of x) t.binds
 
 module _ (t : ProgramText) (made : SetUpValue) (x : Plan) (of : IsPlanOf t made x) (suits : Suits (source_of x) t made) where
-  same_entries : named_entries x ≡ map named_entry t.entries
+  pub same_entries : named_entries x ≡ map named_entry t.entries
   same_entries = ap (λ (v : _). map named_entry_of v.items) of.entries ∙ suits.entries
 
   -- the plan can be set up
@@ -65,40 +82,44 @@ module _ (t : ProgramText) (made : SetUpValue) (x : Plan) (of : IsPlanOf t made 
         pokes = subst (All HasShortPokes) (sym of.answers) fits.pokes;
       }
 
-  same_funcs : (funcs : List ℕ) → set_up (source_of x) x.area (named_entries x) ≡ Ok funcs → funcs ≡ made.funcs.items
-  same_funcs funcs e =
-      let told : set_up (source_of x) x.area (named_entries x) ≡ Ok made.funcs.items =
-      ap (λ (a : Area). set_up (source_of x) a (named_entries x)) of.area ∙ ap (set_up (source_of x) t.area) same_entries ∙ suits.funcs in
-      let both : ◌≡◌ {A = Result (List ℕ) Fault} (Ok funcs) (Ok made.funcs.items) = sym e ∙ told in
-      cc
+  -- and has no fault
+  pub is_set_up : set_up (source_of x) x.area (named_entries x) ≡ Ok made.funcs.items
+  is_set_up = ap (λ (a : Area). set_up (source_of x) a (named_entries x)) of.area ∙ ap (set_up (source_of x) t.area) same_entries ∙ suits.funcs
 
-  abbrev world_of : List Value → List Entry → Area → ℕ → List AnswerLine → W.Program
-  world_of globals entries area steps answers = record {
-    source = source_of x;
-    plan = record { globals = globals; entries = entries; area = area; listed = listing x.listed };
+-- ---- a plan that is made
+
+module _ (x : Part) (z : ScriptPlan) (p : IsPlanned x z) where
+  abbrev world_of : Module → Option (List Bool) → List Value → List NamedEntry → Area → ℕ → List AnswerLine → W.Program
+  world_of source listed globals entries area steps answers = record {
+    source = source;
+    plan = record { globals = globals; entries = calls_of entries x.given.funcs; area = area; others = []; listed = listed };
     steps = steps;
     answers = answers;
-    binds = bindings (source_of x) t.binds;
-    looks = map look_at t.shows;
+    binds = bindings x.source x.text.binds;
+    looks = map look_at x.text.shows;
+    origin = at_start;
   }
 
-  abbrev told_program : W.Program
-  told_program = world_program (part (source_of x) (listing x.listed) t (set_up_of made))
+  -- the program of a world that its plan is
+  abbrev pub planned : W.Program
+  planned = P.world_program z.plan x.given.funcs (map look_at x.text.shows) (bindings x.source x.text.binds)
 
-  abbrev planned : List ℕ → W.Program
-  planned funcs = P.world_program x funcs (map look_at t.shows) (bindings (source_of x) t.binds)
+  pub same_world : planned ≡ world_program x
+  same_world = λ k. world_of (p.source k) (p.listed k) (p.globals k) (p.entries k) (p.area k) (p.steps k) (p.answers k)
 
-  same_world : (funcs : List ℕ) → funcs ≡ made.funcs.items → planned funcs ≡ told_program
-  same_world funcs e =
-      ap (λ (v : _). world_of v.items (calls_of (named_entries x) funcs) x.area x.steps (map answer_line_of x.answers.items)) of.globals
-      ∙ ap (λ (es : List NamedEntry). world_of made.globals.items (calls_of es funcs) x.area x.steps (map answer_line_of x.answers.items)) same_entries
-      ∙ ap (λ (fs : List ℕ). world_of made.globals.items (calls_of (map named_entry t.entries) fs) x.area x.steps (map answer_line_of x.answers.items)) e
-      ∙ ap (λ (a : Area). world_of made.globals.items (calls_of (map named_entry t.entries) made.funcs.items) a x.steps (map answer_line_of x.answers.items)) of.area
-      ∙ ap (λ (n : ℕ). world_of made.globals.items (calls_of (map named_entry t.entries) made.funcs.items) t.area n (map answer_line_of x.answers.items)) of.steps
-      ∙ ap (world_of made.globals.items (calls_of (map named_entry t.entries) made.funcs.items) t.area t.steps) of.answers
+  pub binds_as : BindsAs z.plan (bindings x.source x.text.binds)
+  binds_as import = ap (λ bs. unwrap_or (slice_get bs import) None) (sym p.binds)
 
-  pub begins : (program : Program) → SetsUp x (Ok program) → Follows told_program [] [] program × (lines_left program ≡ t.answers)
+  same_funcs : (funcs : List ℕ) → set_up (source_of z.plan) z.plan.area (named_entries z.plan) ≡ Ok funcs → funcs ≡ x.given.funcs
+  same_funcs funcs e =
+      let told : set_up (source_of z.plan) z.plan.area (named_entries z.plan) ≡ Ok x.given.funcs = p.funcs in
+      let both : ◌≡◌ {A = Result (List ℕ) Fault} (Ok funcs) (Ok x.given.funcs) = sym e ∙ told in
+      cc
+
+  pub begins : (program : Program) → SetsUp z.plan (Ok program) → Follows (world_program x) [] [] program × (lines_left program ≡ x.text.answers) × (receive_in program ≡ None)
   begins program up =
-      let follows : Follows (planned up.0) [] [] program =
-      up.2 (map look_at t.shows) (bindings (source_of x) t.binds) (λ import. ap (λ bs. unwrap_or (slice_get bs import) None) (sym of.binds)) in
-      (subst (λ (z : W.Program). Follows z [] [] program) (same_world up.0 (same_funcs up.0 up.1)) follows, up.3 ∙ of.answers)
+      let follows : Follows (P.world_program z.plan up.0 (map look_at x.text.shows) (bindings x.source x.text.binds)) [] [] program =
+      up.2 (map look_at x.text.shows) (bindings x.source x.text.binds) binds_as in
+      let own : Follows planned [] [] program =
+      subst (λ (fs : List ℕ). Follows (P.world_program z.plan fs (map look_at x.text.shows) (bindings x.source x.text.binds)) [] [] program) (same_funcs up.0 up.1) follows in
+      (subst (λ (w : W.Program). Follows w [] [] program) same_world own, up.3 ∙ p.answers, up.4)

@@ -2,18 +2,19 @@
 use Rattle.std.proofs.Common.{◌≡◌, inl, inr, ℕ, zero, suc, ◌+◌, List, [], ◌∷◌, ◌++◌, map, drop, Bool, true, false, if◌then◌else◌, MatchBool, refl, sym, ap, ◌∙◌, arith, add_assoc}
 use Rattle.std.proofs.lemmas.List.{map-append}
 use Rattle.wa_model.specs.declared.answers.Detach.{Detach}
-use Rattle.wa_model.specs.Outside.{Event, called, answered, paused, returned, ended, shown, Line}
+use Rattle.wa_model.specs.Outside.{Event, called, answered, paused, parked, returned, ended, shown, Line}
 use Rattle.wa_model.specs.Blocking.{Note, events_of}
-use Rattle.wa_model.specs.World.{Device, Look, Program, ends_turn, events_with_looks, line_at, looks_after}
+use Rattle.world_model.specs.World.{Device, Look, Program, ends_turn, events_with_looks, line_at, looks_after}
 use Rattle.event_order.specs.Looks.{looks_of}
-use Rattle.many_host.specs.Notes.{GoesOn, TellsOn}
-use Rattle.many_host.specs.Turns.{EndsOnce, Teller, Tells}
-use Rattle.many_host.specs.Stage.{Stage}
-use Rattle.many_host.specs.Stage.TheVariants.{Between, Telling, Showing}
+use Rattle.many_host.specs.Notes.{GoesOn, TellsOnFrom}
+use Rattle.many_host.specs.Turns.{EndsOnce, Teller, TellsFrom, behind, since}
+use Rattle.many_host.specs.declared.turn_taking.Stage.{Stage}
+use Rattle.many_host.specs.declared.turn_taking.Stage.TheVariants.{Between, Telling, Showing}
 use Rattle.many_host.specs.Calls.{BegunBy}
-use Rattle.many_host.specs.Standing.{LooksOut, StandsAt, held_of, looks_at}
+use Rattle.many_host.specs.Standing.{LooksOut, StandsAtFrom, held_of, looks_at}
 use Rattle.many_host.specs.declared.host.Host.{Host}
-use Rattle.many_host.specs.Hosts.{HostTold, memory_of}
+use Rattle.many_host.specs.Hosts.{HostToldFrom, memory_of}
+use Rattle.many_host.proofs.Numbers.{sum_behind}
 use Rattle.world_hosting.specs.Counts.{IsBegunBy, turns_at}
 use Rattle.world_hosting.specs.Worlds.{turn_count}
 
@@ -37,6 +38,7 @@ module _ (due i : ℕ) where
   looks_none looks x (paused ticks used) = refl
   looks_none looks x (returned entry value) = refl
   looks_none looks x (ended how) = memory_none x.store.memory looks
+  looks_none looks x (parked used) = refl
   looks_none looks x (shown at bytes) = refl
 
   turn_once : (looks : List Look) (turn : List Note) → EndsOnce turn → turn_count (lines_of (events_with_looks looks turn)) ≡ 1
@@ -64,54 +66,62 @@ module _ (due i : ℕ) where
 
 -- ---- so many turns
 
-turns_told : (programs : List Program) (detaches : List Detach) (ds : List Device) (count : ℕ) (lines : List Line) (tellers : List Teller) (ds' : List Device)
-    → Tells programs detaches ds count lines tellers ds' → turn_count lines ≡ count
-turns_told programs detaches ds zero lines tellers ds' h = ap turn_count h.0
-turns_told programs detaches ds (suc count) lines tellers ds' h =
-    let before = turns_told programs detaches ds count h.0 h.2 h.3 h.4 in
+turns_told : (earlier : ℕ) (programs : List Program) (detaches : List Detach) (ds : List Device) (count : ℕ) (lines : List Line) (tellers : List Teller) (ds' : List Device)
+    → TellsFrom earlier programs detaches ds count lines tellers ds' → turn_count lines ≡ count
+turns_told earlier programs detaches ds zero lines tellers ds' h = ap turn_count h.0
+turns_told earlier programs detaches ds (suc count) lines tellers ds' h =
+    let before = turns_told earlier programs detaches ds count h.0 h.2 h.3 h.4 in
     let play = h.5 in
     let one : turn_count h.1 ≡ 1 = ap turn_count play.made ∙ turn_once play.t.due play.i play.w.looks play.turn play.whole in
     let all : turn_count lines ≡ turn_count h.0 + turn_count h.1 = ap turn_count h.6 ∙ turns_append h.0 h.1 in
     omega (arith, before, one, all)
 
-pub turns_begun : (programs : List Program) (detaches : List Detach) (ds : List Device) (lines : List Line) (h : Host) (ds' : List Device) → HostTold programs detaches ds lines h ds'
-    → LooksOut h.turns.shows.items h.turns.stage → turn_count lines ≡ h.turns.begun
-turns_begun programs detaches ds lines h ds' told out = by h.turns.stage told.at out where
-  by : (stage : Stage) → StandsAt memory_of programs detaches ds lines told.tellers (held_of h.turns) ds' stage → LooksOut h.turns.shows.items stage → turn_count lines ≡ h.turns.begun
-  by Between at none = turns_told programs detaches ds h.turns.begun lines told.tellers ds' at
-  by (Telling turn) at none = absurd none
-  by (Showing turn from) at none =
-      let looks : List Look = looks_of turn.program (drop from h.turns.shows.items) in
-      let whole = turns_told programs detaches ds h.turns.begun (lines ++ map (line_at turn.due turn.program) (looks_at (memory_of at.0) looks)) told.tellers ds' at.2 in
-      let parts = turns_append lines (map (line_at turn.due turn.program) (looks_at (memory_of at.0) looks)) in
-      let shown_none = memory_none turn.due turn.program (memory_of at.0) looks in
-      omega (arith, whole, parts, shown_none)
-
-turns_on : (programs : List Program) (detaches : List Detach) (ds : List Device) (number i due : ℕ) (lines : List Line) (tellers : List Teller) (ds' : List Device)
-    → TellsOn programs detaches ds number i due lines tellers ds' → turn_count lines ≡ number
-turns_on programs detaches ds number i due lines tellers ds' on =
-    let whole = turns_told programs detaches ds number on.before on.mid on.es on.whole in
+turns_on : (earlier : ℕ) (programs : List Program) (detaches : List Detach) (ds : List Device) (number i due : ℕ) (lines : List Line) (tellers : List Teller) (ds' : List Device)
+    → TellsOnFrom earlier programs detaches ds number i due lines tellers ds' → turn_count lines ≡ number
+turns_on earlier programs detaches ds number i due lines tellers ds' on =
+    let whole = turns_told earlier programs detaches ds number on.before on.mid on.es on.whole in
     let parts = ap turn_count on.made ∙ turns_append on.before (map (line_at due i) (events_of on.turn)) in
     let none = goes_none due i on.turn on.goes_on in
     omega (arith, whole, parts, none)
 
--- so many events have begun by the next line
-pub begun_next : (programs : List Program) (detaches : List Detach) (ds : List Device) (lines : List Line) (h : Host) (ds' : List Device) → HostTold programs detaches ds lines h ds'
-    → (n : ℕ) (e : Event) → BegunBy h.turns.stage h.turns.begun n e → IsBegunBy h.turns.begun (turn_count lines) e n
-begun_next programs detaches ds lines h ds' told n e next = by h.turns.stage told.at next where
-  by : (stage : Stage) → StandsAt memory_of programs detaches ds lines told.tellers (held_of h.turns) ds' stage → BegunBy stage h.turns.begun n e
-      → IsBegunBy h.turns.begun (turn_count lines) e n
-  by Between at is =
-      let ended = turns_told programs detaches ds h.turns.begun lines told.tellers ds' at in
-      inl (omega (arith, ended, is))
-  by (Telling turn) at is =
-      let ended = turns_on programs detaches ds at.0 turn.program turn.due lines told.tellers ds' at.2 in
-      let own = at.1 in
-      inl (omega (arith, ended, own, is))
-  by (Showing turn from) at is =
+module _ (earlier : ℕ) (programs : List Program) (detaches : List Detach) (ds : List Device) (lines : List Line) (h : Host) (ds' : List Device)
+    (told : HostToldFrom earlier programs detaches ds lines h ds') where
+  -- how many of its turns have begun
+  abbrev own : ℕ
+  own = since earlier h.turns.begun
+
+  own_turns : (stage : Stage) → StandsAtFrom earlier memory_of programs detaches ds lines told.tellers (held_of h.turns) ds' stage → LooksOut h.turns.shows.items stage → turn_count lines ≡ own
+  own_turns Between at none = turns_told earlier programs detaches ds own lines told.tellers ds' at
+  own_turns (Telling turn) at none = absurd none
+  own_turns (Showing turn from) at none =
       let looks : List Look = looks_of turn.program (drop from h.turns.shows.items) in
-      let whole = turns_told programs detaches ds h.turns.begun (lines ++ map (line_at turn.due turn.program) (looks_at (memory_of at.0) looks)) told.tellers ds' at.2 in
+      let whole = turns_told earlier programs detaches ds own (lines ++ map (line_at turn.due turn.program) (looks_at (memory_of at.0) looks)) told.tellers ds' at.2 in
       let parts = turns_append lines (map (line_at turn.due turn.program) (looks_at (memory_of at.0) looks)) in
       let shown_none = memory_none turn.due turn.program (memory_of at.0) looks in
-      let ended : h.turns.begun ≡ turn_count lines = omega (arith, whole, parts, shown_none) in
-      elim is [ inl begins ↦ inl (omega (arith, ended, begins)) | inr stays ↦ inr (stays.0 ∙ ended, ended, stays.1) ]
+      omega (arith, whole, parts, shown_none)
+
+  pub turns_begun : LooksOut h.turns.shows.items h.turns.stage → behind earlier (turn_count lines) ≡ h.turns.begun
+  turns_begun out = ap (behind earlier) (own_turns h.turns.stage told.at out) ∙ told.begun_is
+
+  -- so many events have begun by the next line
+  pub begun_next : (n : ℕ) (e : Event) → BegunBy h.turns.stage h.turns.begun n e → IsBegunBy h.turns.begun (earlier + turn_count lines) e n
+  begun_next n e next = by h.turns.stage told.at next where
+    sum : earlier + own ≡ h.turns.begun
+    sum = sym (sum_behind earlier own) ∙ told.begun_is
+
+    by : (stage : Stage) → StandsAtFrom earlier memory_of programs detaches ds lines told.tellers (held_of h.turns) ds' stage → BegunBy stage h.turns.begun n e
+        → IsBegunBy h.turns.begun (earlier + turn_count lines) e n
+    by Between at is =
+        let ended = turns_told earlier programs detaches ds own lines told.tellers ds' at in
+        inl (omega (arith, ended, is, sum))
+    by (Telling turn) at is =
+        let ended = turns_on earlier programs detaches ds at.0 turn.program turn.due lines told.tellers ds' at.2 in
+        let one_more = at.1 in
+        inl (omega (arith, ended, one_more, is, sum))
+    by (Showing turn from) at is =
+        let looks : List Look = looks_of turn.program (drop from h.turns.shows.items) in
+        let whole = turns_told earlier programs detaches ds own (lines ++ map (line_at turn.due turn.program) (looks_at (memory_of at.0) looks)) told.tellers ds' at.2 in
+        let parts = turns_append lines (map (line_at turn.due turn.program) (looks_at (memory_of at.0) looks)) in
+        let shown_none = memory_none turn.due turn.program (memory_of at.0) looks in
+        let ended : h.turns.begun ≡ earlier + turn_count lines = omega (arith, whole, parts, shown_none, sum) in
+        elim is [ inl begins ↦ inl (omega (arith, ended, begins)) | inr stays ↦ inr (stays.0 ∙ ended, ended, stays.1) ]

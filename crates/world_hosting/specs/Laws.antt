@@ -1,7 +1,7 @@
 -- Laws of what is asked of a program.
 use Rattle.std.specs.Prelude.{◌≡◌, ◌≤◌, ℕ, List, length, All, Ok}
-use Rattle.wa_model.specs.Script.{Script}
-use Rattle.wa_model.specs.ScriptText.{script_text}
+use Rattle.script_model.specs.Script.{Script}
+use Rattle.script_model.specs.ScriptText.{script_text}
 use Rattle.world_hosting.specs.Worlds.{FitsPlan, HasRanges}
 
 -- Each program of a script of at most 1,048,576 bytes fits a plan.

@@ -1,32 +1,25 @@
 //! The programs of a script, told to their ends.
 
-ghost use Rattle.std.specs.Prelude.{◌≡◌, ◌≤◌, [], ◌∷◌, IsErrOf, List, OnOk, length, map};
+ghost use Rattle.std.specs.Prelude.{◌≡◌, ◌≢◌, ◌≤◌, IsErrOf, List, OnOk, length, ℕ};
 ghost use Rattle.std.specs.Result.{IfErr};
-ghost use Rattle.vault_port.specs.Counts.{HasRisen};
-ghost use Rattle.vault_port.specs.Told.{Becomes};
+ghost use Rattle.vault_port.specs.Counts.{FailsOnce};
 ghost use Rattle.wa_model.specs.declared.answers.Detach.{Detach as DetachValue};
-ghost use Rattle.host_turns.specs.Supplies.{IsLent};
-ghost use Rattle.transcript.specs.Printing.{names_of};
-ghost use Rattle.many_host.specs.Calls.{devices_of};
+ghost use Rattle.world_model.specs.World.{Program as WorldProgram};
+ghost use Rattle.host_laws.specs.Supplies.{IsLent};
 ghost use Rattle.many_host.specs.Standing.{InRange};
-ghost use Rattle.many_host.specs.Hosts.{HostTold};
 ghost use Rattle.world_hosting.specs.Counts.{counted};
-ghost use Rattle.world_hosting.specs.Parted.{CanHost};
+ghost use Rattle.world_hosting.specs.Parted.{Begins, BeginsHosting};
 ghost use Rattle.world_hosting.specs.Views.{AreStaged};
-ghost use Rattle.world_hosting.specs.Worlds.{Part, Tells, TellsPart, part_names, world_programs};
+ghost use Rattle.world_hosting.specs.Worlds.{Part, Tells, TellsPart, TellsPartFrom, TellsWorldFrom};
 
-use crate::parting::{Parted, part_programs};
+use crate::hosting::{Hosting, host_staged};
 use crate::staging::Staged;
 use device_port::{Device, Devices};
 use many_host::Host;
-use printing::{put_last, put_line};
 use std::alloc::Global;
-use transcript::Names;
+use transcript::{Names, put_last, put_line};
 use vault_port::{PutFault, Sink};
 use wa_model::Detach;
-
-/// No programs tell so many lines: each takes at most 1,000,000,000 steps, each of which makes three at most.
-const MOST_LINES: u64 = 1_099_511_627_776;
 
 /// Tells up to sixteen programs to their ends and prints each line as it comes, then the last line. A call of a bound import asks its
 /// device; before an event the devices are taken out whose detaches have its number. After an error some first bytes of that were
@@ -40,54 +33,56 @@ pub fn host_programs<S: Sink>(
 ) -> Result<(), PutFault>
     requires lent { IsLent }
     requires few { length staged.items ≤ 16 }
+    requires staged { (parts : List Part) × AreStaged parts staged.items }
     ensures same_list { devices.new.list.ghost_name ≡ devices.old.list.ghost_name }
     ensures told { (parts : List Part) → AreStaged parts staged.entry.items
-        → OnOk result (Becomes (S.taken out.old) (S.taken out.new) (Tells parts detaches.items
+        → OnOk result (Tells parts detaches.items
         (counted seen (λ d. (⟦<dyn Device as Device>⟧ d.0).faults d.1) devices.old)
-        (counted seen (λ d. (⟦<dyn Device as Device>⟧ d.0).faults d.1) devices.new))) }
+        (counted seen (λ d. (⟦<dyn Device as Device>⟧ d.0).faults d.1) devices.new)
+        (S.taken out.old) (S.taken out.new)) }
     ensures part { (parts : List Part) → AreStaged parts staged.entry.items
-        → IfErr result (λ fault. Becomes (S.taken out.old) (S.taken out.new) (TellsPart fault parts detaches.items
+        → IfErr result (λ fault. TellsPart fault parts detaches.items
         (counted seen (λ d. (⟦<dyn Device as Device>⟧ d.0).faults d.1) devices.old)
-        (counted seen (λ d. (⟦<dyn Device as Device>⟧ d.0).faults d.1) devices.new))) }
-    ensures fault { IsErrOf result PutFault.Fault → HasRisen (S.faults out.old) (S.faults out.new) }
+        (counted seen (λ d. (⟦<dyn Device as Device>⟧ d.0).faults d.1) devices.new)
+        (S.taken out.old) (S.taken out.new)) }
+    ensures fault { IsErrOf result PutFault.Fault → FailsOnce (S.faults out.old) (S.faults out.new) }
+    ensures stays { result ≢ Err PutFault.Fault → S.faults out.new ≡ S.faults out.old }
     ensures faults { S.faults out.old ≤ S.faults out.new }
 {
-    match part_programs(alloc, staged) {
-        Ok(parted) => host_parted(alloc, out, parted, detaches, devices),
+    match host_staged(alloc, staged, detaches) {
+        Ok(hosting) => tell_hosting(alloc, out, hosting, devices),
         Err(_) => Err(PutFault::Memory),
     }
 }
 
-// Tells the programs, in parts.
-fn host_parted<S: Sink>(
+/// Tells the programs of a host to their ends, likewise.
+pub(crate) fn tell_hosting<S: Sink>(
     alloc: Global,
     out: &mut S,
-    parted: Parted<'_>,
-    detaches: Vec<Detach>,
+    hosting: Hosting<'_>,
     devices: &mut Devices<'_>,
 ) -> Result<(), PutFault>
     requires lent { IsLent }
-    requires few { length parted.programs.items ≤ 16 }
+    requires range { InRange hosting.host.turns }
+    requires begins { BeginsHosting hosting.host hosting.names.items }
     ensures same_list { devices.new.list.ghost_name ≡ devices.old.list.ghost_name }
-    ensures told { (parts : List Part) → CanHost parts parted.entry
-        → OnOk result (Becomes (S.taken out.old) (S.taken out.new) (Tells parts detaches.items
+    ensures told { (earlier : ℕ) (programs : List WorldProgram) (parts : List Part) (detaches : List DetachValue)
+        → Begins earlier programs parts detaches hosting.entry.host hosting.entry.names.items
+        → OnOk result (TellsWorldFrom earlier programs parts detaches
         (counted seen (λ d. (⟦<dyn Device as Device>⟧ d.0).faults d.1) devices.old)
-        (counted seen (λ d. (⟦<dyn Device as Device>⟧ d.0).faults d.1) devices.new))) }
-    ensures part { (parts : List Part) → CanHost parts parted.entry
-        → IfErr result (λ fault. Becomes (S.taken out.old) (S.taken out.new) (TellsPart fault parts detaches.items
+        (counted seen (λ d. (⟦<dyn Device as Device>⟧ d.0).faults d.1) devices.new)
+        (S.taken out.old) (S.taken out.new)) }
+    ensures part { (earlier : ℕ) (programs : List WorldProgram) (parts : List Part) (detaches : List DetachValue)
+        → Begins earlier programs parts detaches hosting.entry.host hosting.entry.names.items
+        → IfErr result (λ fault. TellsPartFrom fault earlier programs parts detaches
         (counted seen (λ d. (⟦<dyn Device as Device>⟧ d.0).faults d.1) devices.old)
-        (counted seen (λ d. (⟦<dyn Device as Device>⟧ d.0).faults d.1) devices.new))) }
-    ensures fault { IsErrOf result PutFault.Fault → HasRisen (S.faults out.old) (S.faults out.new) }
+        (counted seen (λ d. (⟦<dyn Device as Device>⟧ d.0).faults d.1) devices.new)
+        (S.taken out.old) (S.taken out.new)) }
+    ensures fault { IsErrOf result PutFault.Fault → FailsOnce (S.faults out.old) (S.faults out.new) }
+    ensures stays { result ≢ Err PutFault.Fault → S.faults out.new ≡ S.faults out.old }
     ensures faults { S.faults out.old ≤ S.faults out.new }
 {
-    let Parted {
-        programs,
-        names,
-        shows,
-    } = parted;
-    let Ok(mut host) = Host::new(alloc, programs, detaches, shows) else {
-        return Err(PutFault::Memory);
-    };
+    let Hosting { mut host, names } = hosting;
     let told = tell_lines(alloc, out, &mut host, &names, devices);
     drop(host);
     told
@@ -103,27 +98,27 @@ fn tell_lines<S: Sink>(
 ) -> Result<(), PutFault>
     requires lent { IsLent }
     requires range { InRange host.old.turns }
+    requires begins { BeginsHosting host.old names.now }
     ensures same_list { devices.new.list.ghost_name ≡ devices.old.list.ghost_name }
-    ensures told { (parts : List Part) (detaches : List DetachValue)
-        → HostTold (world_programs parts) detaches (devices_of (counted seen (λ d. (⟦<dyn Device as Device>⟧ d.0).faults d.1) devices.old)) []
-        host.old (devices_of (counted seen (λ d. (⟦<dyn Device as Device>⟧ d.0).faults d.1) devices.old))
-        → host.old.turns.begun ≡ 0 → map names_of names.now ≡ map part_names parts
-        → OnOk result (Becomes (S.taken out.old) (S.taken out.new) (Tells parts detaches
+    ensures told { (earlier : ℕ) (programs : List WorldProgram) (parts : List Part) (detaches : List DetachValue)
+        → Begins earlier programs parts detaches host.old names.now
+        → OnOk result (TellsWorldFrom earlier programs parts detaches
         (counted seen (λ d. (⟦<dyn Device as Device>⟧ d.0).faults d.1) devices.old)
-        (counted seen (λ d. (⟦<dyn Device as Device>⟧ d.0).faults d.1) devices.new))) }
-    ensures part { (parts : List Part) (detaches : List DetachValue)
-        → HostTold (world_programs parts) detaches (devices_of (counted seen (λ d. (⟦<dyn Device as Device>⟧ d.0).faults d.1) devices.old)) []
-        host.old (devices_of (counted seen (λ d. (⟦<dyn Device as Device>⟧ d.0).faults d.1) devices.old))
-        → host.old.turns.begun ≡ 0 → map names_of names.now ≡ map part_names parts
-        → IfErr result (λ fault. Becomes (S.taken out.old) (S.taken out.new) (TellsPart fault parts detaches
+        (counted seen (λ d. (⟦<dyn Device as Device>⟧ d.0).faults d.1) devices.new)
+        (S.taken out.old) (S.taken out.new)) }
+    ensures part { (earlier : ℕ) (programs : List WorldProgram) (parts : List Part) (detaches : List DetachValue)
+        → Begins earlier programs parts detaches host.old names.now
+        → IfErr result (λ fault. TellsPartFrom fault earlier programs parts detaches
         (counted seen (λ d. (⟦<dyn Device as Device>⟧ d.0).faults d.1) devices.old)
-        (counted seen (λ d. (⟦<dyn Device as Device>⟧ d.0).faults d.1) devices.new))) }
-    ensures fault { IsErrOf result PutFault.Fault → HasRisen (S.faults out.old) (S.faults out.new) }
+        (counted seen (λ d. (⟦<dyn Device as Device>⟧ d.0).faults d.1) devices.new)
+        (S.taken out.old) (S.taken out.new)) }
+    ensures fault { IsErrOf result PutFault.Fault → FailsOnce (S.faults out.old) (S.faults out.new) }
+    ensures stays { result ≢ Err PutFault.Fault → S.faults out.new ≡ S.faults out.old }
     ensures faults { S.faults out.old ≤ S.faults out.new }
 {
-    'telling: for _ in 0..MOST_LINES {
+    'telling: for _told in 0..u64::MAX {
         let events = host.events();
-        let Ok(next) = host.next(devices) else {
+        let Ok(next) = host.next_without_mail(devices) else {
             return Err(PutFault::Memory);
         };
         let Some(line) = next else {
@@ -133,5 +128,6 @@ fn tell_lines<S: Sink>(
             return Err(fault);
         }
     }
-    Err(PutFault::Memory)
+    // Sixteen programs tell fewer lines: three a step and one more each, and one for each show.
+    unreachable!()
 }

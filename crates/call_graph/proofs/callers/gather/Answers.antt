@@ -8,7 +8,7 @@ use Rattle.wa_types.specs.Modules.{func_imports}
 use Rattle.wa_types.specs.Pruned.{pruned}
 use Rattle.wa_types.specs.Pausing.{calls_of, calls_in}
 use Rattle.wasm_validate.proofs.FuncLemmas.{func_at, number_fits}
-use Rattle.wasm_validate.proofs.SpaceLemmas.{on_more, on_close}
+use Rattle.validate_bodies.proofs.SpaceLemmas.{on_more, on_close}
 use Rattle.call_graph.specs.declared.calls.Callee.{Callee}
 use Rattle.call_graph.specs.Calls.{callee_of, pauses, pauses_alone, IsThere}
 use Rattle.call_graph.specs.Callers.{Puts, GatheredBelow}

@@ -2,7 +2,7 @@
 use Rattle.std.proofs.Common.{◌∙◌, ap, sym, ⊎_elim}
 use Rattle.clap.specs.Words.{found_of}
 use Rattle.clap.proofs.WalkLemmas.{one_text-rows}
-use Rattle.word_grammar.specs.Grammar.{is_true}
+use Rattle.command_words.specs.Grammar.{is_true}
 use Rattle.command_words.proofs.matches.flag_at.Goals as goal
 
 pub returns : goal.returns

@@ -1,6 +1,6 @@
 -- Where the parse fails, and not for want of memory, the words spell nothing.
 use Rattle.std.proofs.Common.{map, string_bytes}
-use Rattle.wa_model.specs.Spelled.{spelled}
+use Rattle.script_model.specs.Spelled.{spelled}
 use Rattle.command_words.proofs.Failing.{fails_as}
 use Rattle.command_words.proofs.words.read_words.Goals as goal
 

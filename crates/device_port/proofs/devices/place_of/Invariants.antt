@@ -1,6 +1,6 @@
 use Rattle.std.proofs.Common.{◌≡◌, false, map, take}
 use Rattle.std.specs.List.{list_any}
-use Rattle.wa_model.specs.World.{is_named}
+use Rattle.world_model.specs.World.{is_named}
 use Rattle.device_port.proofs.devices.place_of.Given as goal
 
 abbrev pub invariant-loop-place : goal.invariant-loop-place

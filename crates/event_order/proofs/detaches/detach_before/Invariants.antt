@@ -1,5 +1,5 @@
 use Rattle.std.proofs.Common.{◌≡◌, drop}
-use Rattle.wa_model.specs.World.{detached}
+use Rattle.world_model.specs.World.{detached}
 use Rattle.device_port.specs.Listed.{of_each}
 use Rattle.event_order.specs.Left.{left_before}
 use Rattle.event_order.proofs.detaches.detach_before.Given as goal

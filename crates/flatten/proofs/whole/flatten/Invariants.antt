@@ -1,7 +1,7 @@
 use Rattle.std.proofs.Common.{map, drop}
 use Rattle.wa_types.specs.View.{module_of}
 use Rattle.wa_types.specs.Modules.{func_imports}
-use Rattle.wa_model.specs.FlatView.{flat_func_of}
+use Rattle.run_theory.specs.FlatView.{flat_func_of}
 use Rattle.flatten.proofs.ToldLemmas.{Sofar}
 use Rattle.flatten.proofs.whole.flatten.Given as goal
 

@@ -1,8 +1,8 @@
 use Rattle.std.proofs.Common.{◌≡◌, ◌++◌, ◌+◌, drop, slice_get}
 use Rattle.wa_types.specs.Frames.{slot_places}
 use Rattle.call_graph.specs.Settings.{policy_of}
-use Rattle.point_visits.specs.Points.{lists_of}
-use Rattle.point_visits.specs.Slots.{pairs_of}
+use Rattle.frame_sizes.specs.Points.{lists_of}
+use Rattle.frame_sizes.specs.Slots.{pairs_of}
 use Rattle.frame_sizes.specs.Frames.{keep_slot, places_of}
 use Rattle.frame_sizes.proofs.frames.put_slots.Given as goal
 

@@ -9,8 +9,8 @@ use Rattle.wa_types.specs.View.{code, func_of, module_of}
 use Rattle.wasm_validate.proofs.FuncLemmas.{func_at}
 use Rattle.call_graph.specs.Settings.{policy_of}
 use Rattle.frame_sizes.specs.Frames.{keep_local, places_of}
-use Rattle.point_visits.specs.Points.{lists_of, points_at, calls_at}
-use Rattle.point_visits.specs.Slots.{pairs_of}
+use Rattle.frame_sizes.specs.Points.{lists_of, points_at, calls_at}
+use Rattle.frame_sizes.specs.Slots.{pairs_of}
 use Rattle.frame_sizes.proofs.SavedLemmas.{pruned_typed, saved_whole, same_some}
 use Rattle.frame_sizes.proofs.frames.saved_at.Goals as goal
 

@@ -1,7 +1,7 @@
 use Rattle.std.proofs.Common.{arith, ap, ◌∙◌, None}
 use Rattle.wa_types.specs.Syntax.{a_block, nest}
 use Rattle.wa_types.specs.View.{code}
-use Rattle.wa_model.specs.Flat.{FlatFunc, result_got}
+use Rattle.run_theory.specs.Flat.{FlatFunc, result_got}
 use Rattle.local_spill.specs.Spilling.{unless_normal}
 use Rattle.func_rewrite.proofs.BodyCode.{body_is}
 use Rattle.func_rewrite.proofs.body.body_around.Goals as goal

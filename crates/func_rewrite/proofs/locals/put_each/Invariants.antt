@@ -1,5 +1,5 @@
 use Rattle.std.proofs.Common.{◌≡◌, ◌++◌, map, take}
-use Rattle.wa_model.specs.FlatFits.{one_run}
+use Rattle.run_theory.specs.FlatFits.{one_run}
 use Rattle.func_rewrite.proofs.locals.put_each.Given as goal
 
 abbrev pub invariant-loop-ty : goal.invariant-loop-ty

@@ -6,5 +6,5 @@ use Rattle.host_setup.proofs.entries.is_there.Goals as goal
 pub returns : goal.returns
 returns c =
     c.is_defined_as.ensures
-    ∙ ap (is_defined_as (module_of c.args.«module».now) (record { params = c.args.params.now; results = c.args.results.now }))
+    ∙ ap (is_defined_as (module_of c.args.«module».now) (record { params = c.args.ty.params.now; results = c.args.ty.results.now }))
     (c.func_named-func.ensures (module_of c.args.«module».now) c.requires.names)

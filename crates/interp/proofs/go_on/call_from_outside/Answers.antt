@@ -5,13 +5,13 @@ use Rattle.wa_types.specs.Modules.{defined_at}
 use Rattle.wa_types.specs.View.{code, func_of, module_of}
 use Rattle.wa_model.specs.Configuration.{running}
 use Rattle.wa_model.specs.Step.{entered}
-use Rattle.wa_model.specs.Fitting.{results_of, Fits}
-use Rattle.wa_model.proofs.FittingRuns.{calls_fit}
+use Rattle.run_theory.specs.Fitting.{results_of, Fits}
+use Rattle.run_theory.proofs.FittingRuns.{calls_fit}
 use Rattle.interp.specs.Instance.{CallsAs, Turns, inside_run, waits_of}
 use Rattle.interp.specs.Runs.{LacksAt}
-use Rattle.interp_reduce.specs.View.{store_of, label_of, waiting_of}
-use Rattle.interp_reduce.proofs.CallLemmas.{entered_runs}
-use Rattle.interp_reduce.proofs.RoomKept.{alone_room, entered_room}
+use Rattle.interp_state.specs.View.{store_of, label_of, waiting_of}
+use Rattle.interp.proofs.CallLemmas.{entered_runs}
+use Rattle.interp.proofs.RoomKept.{alone_room, entered_room}
 use Rattle.interp.proofs.go_on.call_from_outside.Goals as goal
 
 pub returns-clause-calls : goal.returns-clause-calls

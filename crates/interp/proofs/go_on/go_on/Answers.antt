@@ -1,10 +1,10 @@
 use Rattle.std.proofs.Common.{◌-◌, reverse, take, drop, refl, ap, sym, ◌∙◌, subst}
 use Rattle.wa_types.specs.View.{module_of}
-use Rattle.wa_model.specs.Alone.{it_asks, EndsAs}
+use Rattle.run_theory.specs.Alone.{it_asks, EndsAs}
 use Rattle.interp.specs.Runs.{RunsTo}
-use Rattle.interp_reduce.specs.View.{store_of, running_of, taking}
+use Rattle.interp_state.specs.View.{store_of, running_of, taking}
 use Rattle.interp.proofs.AskLemmas.{asks_lacking}
-use Rattle.interp_reduce.proofs.RoomKept.{err_any}
+use Rattle.interp.proofs.RoomKept.{err_any}
 use Rattle.interp.proofs.go_on.go_on.Goals as goal
 
 pub returns-in-Returned-clause-turns : goal.returns-in-Returned-clause-turns

@@ -2,12 +2,12 @@ use Rattle.std.proofs.Common.{arith, [], suc, ◌≡◌, ◌+◌, ◌-◌, ◌�
 use Rattle.std.specs.Option.{option_to_list}
 use Rattle.wa_types.specs.View.{module_of}
 use Rattle.wa_model.specs.Step.{step}
-use Rattle.wa_model.specs.Alone.{it_returned, it_trapped, it_asks}
-use Rattle.wa_model.proofs.FittingRuns.{leads_fit}
-use Rattle.interp_reduce.specs.Told.{Tells, args_below}
-use Rattle.interp_reduce.specs.View.{store_of, running_of, taking}
+use Rattle.run_theory.specs.Alone.{it_returned, it_trapped, it_asks}
+use Rattle.run_theory.proofs.FittingRuns.{leads_fit}
+use Rattle.interp.specs.Told.{Tells, args_below}
+use Rattle.interp_state.specs.View.{store_of, running_of, taking}
 use Rattle.interp.proofs.RunLemmas.{no_step, one_more, ends_by, ends_spent, returned_listed, nothing_left}
-use Rattle.interp_reduce.proofs.RoomKept.{err_any}
+use Rattle.interp.proofs.RoomKept.{err_any}
 use Rattle.interp.proofs.run.run.Goals as goal
 
 pub loop-steps-init : goal.loop-steps-init

@@ -1,8 +1,8 @@
 use Rattle.std.proofs.Common.{◌≡◌, ◌+◌, ◌-◌, ◌≤◌}
 use Rattle.wa_types.specs.View.{module_of}
-use Rattle.wa_model.specs.Alone.{Goes}
-use Rattle.interp_reduce.specs.StackRooms.{StackRoom}
-use Rattle.interp_reduce.specs.View.{store_of, running_of}
+use Rattle.run_theory.specs.Alone.{Goes}
+use Rattle.interp.specs.StackRooms.{StackRoom}
+use Rattle.interp_state.specs.View.{store_of, running_of}
 use Rattle.interp.proofs.run.run.Given as goal
 
 abbrev pub invariant-loop-steps : goal.invariant-loop-steps

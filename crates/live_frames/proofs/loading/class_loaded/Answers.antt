@@ -3,7 +3,7 @@ use Rattle.wa_types.specs.Syntax.{done}
 use Rattle.frame_laws.specs.Layout.{loads}
 use Rattle.call_frames.specs.FrameParts.{scratch_lowered}
 use Rattle.local_spill.proofs.PutLemmas.{put_on, put_first, whole}
-use Rattle.call_classes.specs.Views.{fields_of}
+use Rattle.call_frames.specs.Views.{fields_of}
 use Rattle.live_frames.proofs.loading.class_loaded.Goals as goal
 
 pub returns : goal.returns

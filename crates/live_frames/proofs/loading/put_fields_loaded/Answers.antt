@@ -2,7 +2,7 @@ use Rattle.std.proofs.Common.{◌+◌, arith}
 use Rattle.wa_types.specs.Syntax.{local_get, local_set, plain}
 use Rattle.local_spill.specs.Spilling.{loaded_value}
 use Rattle.local_spill.specs.declared.frames.Place.{Place}
-use Rattle.call_sizes.proofs.FieldSteps.{part_most, size_step}
+use Rattle.live_frames.proofs.FieldSteps.{part_most, size_step}
 use Rattle.live_frames.proofs.PutSteps.{put_same, loaded_step, loaded_end}
 use Rattle.live_frames.proofs.loading.put_fields_loaded.Goals as goal
 

@@ -1,7 +1,7 @@
 use Rattle.std.proofs.Common.{◌≡◌, ◌+◌, take}
 use Rattle.frame_laws.specs.Layout.{fields_size, loads}
 use Rattle.local_spill.specs.Putting.{Puts}
-use Rattle.call_classes.specs.Views.{fields_of}
+use Rattle.call_frames.specs.Views.{fields_of}
 use Rattle.live_frames.proofs.loading.put_fields_loaded.Given as goal
 
 abbrev pub invariant-loop-field : goal.invariant-loop-field

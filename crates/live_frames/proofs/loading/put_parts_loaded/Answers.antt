@@ -2,10 +2,10 @@ use Rattle.std.proofs.Common.{◌≡◌, ◌∙◌, ℕ, get_or, length, ◌<◌
 use Rattle.call_frames.specs.FrameParts.{parts_loaded}
 use Rattle.call_frames.specs.PlainFrames.{parts_of}
 use Rattle.local_spill.specs.Putting.{Puts}
-use Rattle.call_classes.specs.declared.frames.KeptPart.{KeptPart}
-use Rattle.call_classes.specs.Classes.{part_fields}
-use Rattle.call_classes.specs.Views.{part_view, part_views}
-use Rattle.call_sizes.proofs.FieldSteps.{few_at, shared_bytes, shared_next, shared_small}
+use Rattle.call_frames.specs.declared.frames.KeptPart.{KeptPart}
+use Rattle.call_frames.specs.Classes.{part_fields}
+use Rattle.call_frames.specs.Views.{part_view, part_views}
+use Rattle.live_frames.proofs.FieldSteps.{few_at, shared_bytes, shared_next, shared_small}
 use Rattle.live_frames.proofs.PutSteps.{part_loaded_end, part_loaded_step, part_same}
 use Rattle.live_frames.proofs.loading.put_parts_loaded.Goals as goal
 

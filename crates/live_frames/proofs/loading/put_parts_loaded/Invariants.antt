@@ -2,7 +2,7 @@ use Rattle.std.proofs.Common.{◌≡◌, ◌≤◌, drop, length, take}
 use Rattle.call_frames.specs.FrameParts.{parts_loaded, shared_size}
 use Rattle.call_frames.specs.PlainFrames.{parts_of}
 use Rattle.local_spill.specs.Putting.{Puts}
-use Rattle.call_classes.specs.Views.{part_views}
+use Rattle.call_frames.specs.Views.{part_views}
 use Rattle.live_frames.proofs.loading.put_parts_loaded.Given as goal
 
 abbrev pub invariant-loop-left : goal.invariant-loop-left

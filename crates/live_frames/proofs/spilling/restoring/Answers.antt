@@ -2,8 +2,8 @@ use Rattle.std.proofs.Common.{◌+◌, ap, ◌∙◌}
 use Rattle.call_frames.specs.FrameParts.{parts_loaded}
 use Rattle.call_frames.specs.PlainFrames.{parts_of}
 use Rattle.local_spill.proofs.PutLemmas.{put_first, put_on}
-use Rattle.call_classes.specs.Views.{part_views}
-use Rattle.call_sizes.proofs.FieldSteps.{shared_bytes}
+use Rattle.call_frames.specs.Views.{part_views}
+use Rattle.live_frames.proofs.FieldSteps.{shared_bytes}
 use Rattle.live_frames.proofs.PutSteps.{put_same}
 use Rattle.live_frames.proofs.WholeCodes.{restored_with}
 use Rattle.live_frames.proofs.spilling.restoring.Goals as goal

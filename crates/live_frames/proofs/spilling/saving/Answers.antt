@@ -4,8 +4,8 @@ use Rattle.wa_types.specs.Syntax.{const, basic, plain}
 use Rattle.call_frames.specs.FrameParts.{parts_stored}
 use Rattle.call_frames.specs.PlainFrames.{own_weights, parts_of, weights_added}
 use Rattle.local_spill.proofs.PutLemmas.{put_first, put_on}
-use Rattle.call_classes.specs.Views.{part_views}
-use Rattle.call_sizes.proofs.FieldSteps.{shared_bytes}
+use Rattle.call_frames.specs.Views.{part_views}
+use Rattle.live_frames.proofs.FieldSteps.{shared_bytes}
 use Rattle.live_frames.proofs.PutSteps.{put_same}
 use Rattle.live_frames.proofs.WholeCodes.{saved_with}
 use Rattle.live_frames.proofs.spilling.saving.Goals as goal

@@ -3,7 +3,7 @@ use Rattle.wa_types.specs.Syntax.{done}
 use Rattle.frame_laws.specs.Layout.{stores}
 use Rattle.call_frames.specs.FrameParts.{scratch_raised}
 use Rattle.local_spill.proofs.PutLemmas.{put_on, put_first, whole}
-use Rattle.call_classes.specs.Views.{fields_of}
+use Rattle.call_frames.specs.Views.{fields_of}
 use Rattle.live_frames.proofs.storing.class_stored.Goals as goal
 
 pub returns : goal.returns

@@ -2,7 +2,7 @@ use Rattle.std.proofs.Common.{◌+◌, arith}
 use Rattle.wa_types.specs.Syntax.{local_get, plain}
 use Rattle.local_spill.specs.Spilling.{stored_value}
 use Rattle.local_spill.specs.declared.frames.Place.{Place}
-use Rattle.call_sizes.proofs.FieldSteps.{part_most, size_step}
+use Rattle.live_frames.proofs.FieldSteps.{part_most, size_step}
 use Rattle.live_frames.proofs.PutSteps.{put_same, stored_step, stored_end}
 use Rattle.live_frames.proofs.storing.put_fields_stored.Goals as goal
 

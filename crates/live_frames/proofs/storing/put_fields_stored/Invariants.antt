@@ -1,7 +1,7 @@
 use Rattle.std.proofs.Common.{◌≡◌, ◌+◌, take}
 use Rattle.frame_laws.specs.Layout.{fields_size, stores}
 use Rattle.local_spill.specs.Putting.{Puts}
-use Rattle.call_classes.specs.Views.{fields_of}
+use Rattle.call_frames.specs.Views.{fields_of}
 use Rattle.live_frames.proofs.storing.put_fields_stored.Given as goal
 
 abbrev pub invariant-loop-field : goal.invariant-loop-field

@@ -1,10 +1,10 @@
 use Rattle.std.proofs.Common.{◌<◌, ◌≤◌, length, ◌∷◌, [], ap, arith, subst, sym}
 use Rattle.call_frames.specs.FrameParts.{parts_stored}
 use Rattle.call_frames.specs.PlainFrames.{parts_of}
-use Rattle.call_classes.specs.declared.frames.KeptPart.{KeptPart}
-use Rattle.call_classes.specs.Classes.{part_fields}
-use Rattle.call_classes.specs.Views.{part_view}
-use Rattle.call_sizes.proofs.FieldSteps.{few_at, shared_bytes, shared_next, shared_small}
+use Rattle.call_frames.specs.declared.frames.KeptPart.{KeptPart}
+use Rattle.call_frames.specs.Classes.{part_fields}
+use Rattle.call_frames.specs.Views.{part_view}
+use Rattle.live_frames.proofs.FieldSteps.{few_at, shared_bytes, shared_next, shared_small}
 use Rattle.live_frames.proofs.PutSteps.{part_same, part_stored_end, part_stored_step}
 use Rattle.live_frames.proofs.storing.put_parts_stored.Goals as goal
 

@@ -2,7 +2,7 @@ use Rattle.std.proofs.Common.{◌≡◌, take}
 use Rattle.call_frames.specs.FrameParts.{parts_stored, shared_size}
 use Rattle.call_frames.specs.PlainFrames.{parts_of}
 use Rattle.local_spill.specs.Putting.{Puts}
-use Rattle.call_classes.specs.Views.{part_views}
+use Rattle.call_frames.specs.Views.{part_views}
 use Rattle.live_frames.proofs.storing.put_parts_stored.Given as goal
 
 abbrev pub invariant-loop-part : goal.invariant-loop-part

@@ -1,10 +1,10 @@
 use Rattle.std.proofs.Common.{rules, arith, ap, sym, ◌∙◌}
 use Rattle.wa_types.specs.Syntax.{a_block, a_loop}
-use Rattle.wa_model.specs.Flat.{no_more, nests, decides}
-use Rattle.wa_model.specs.FlatView.{stmts}
+use Rattle.run_theory.specs.Flat.{no_more, nests, decides}
+use Rattle.run_theory.specs.FlatView.{stmts}
 use Rattle.wa_model.specs.declared.flat.Stmt.{the_lemmas}
 use Rattle.flow_rewrite.proofs.NumberingLemmas.{room_at, call_place, nest_room, if_room, else_room, none_place}
-use Rattle.flat_pieces.proofs.StmtLemmas.{block_is, loop_is, if_is}
+use Rattle.flow_rewrite.proofs.StmtLemmas.{block_is, loop_is, if_is}
 use Rattle.live_locals.proofs.RowLemmas.{count_next, count_end, nest_total, if_total}
 use Rattle.live_locals.proofs.calls.+count.Goals as goal
 

@@ -1,5 +1,5 @@
 use Rattle.std.proofs.Common.{◌≡◌, ◌+◌, drop}
-use Rattle.wa_model.specs.FlatView.{stmts}
+use Rattle.run_theory.specs.FlatView.{stmts}
 use Rattle.guard_form.specs.Pieces.{call_total}
 use Rattle.live_locals.proofs.calls.+count.Given as goal
 

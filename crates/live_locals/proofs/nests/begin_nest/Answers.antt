@@ -1,8 +1,8 @@
 use Rattle.std.proofs.Common.{◌∙◌, ap, length, reverse, sym}
 use Rattle.std.proofs.lemmas.Result.{IfOk-weaker}
-use Rattle.wa_model.specs.Flat.{no_more, code_of}
-use Rattle.wa_model.specs.FlatView.{stmt_in_front}
-use Rattle.live_words.proofs.WordPasses.{words_size, put_back_words}
+use Rattle.run_theory.specs.Flat.{no_more, code_of}
+use Rattle.run_theory.specs.FlatView.{stmt_in_front}
+use Rattle.live_locals.proofs.WordPasses.{words_size, put_back_words}
 use Rattle.live_locals.proofs.NestLemmas.{at_begun, on_ok}
 use Rattle.live_locals.proofs.nests.begin_nest.Goals as goal
 

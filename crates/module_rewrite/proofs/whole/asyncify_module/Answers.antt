@@ -1,150 +1,53 @@
-use Rattle.std.proofs.Common.{ap, sym, subst, map, Err, None, ◌≡◌, ◌<◌, ◌^◌, ◌∙◌}
+use Rattle.std.proofs.Common.{ap, sym, subst, length, Err, drop, ◌<◌, ◌^◌, ◌∙◌}
 use Rattle.std.proofs.lemmas.Result.{err_from_is_err_and}
 use Rattle.wa_types.specs.declared.syntax.Module.{Module as ModuleValue}
-use Rattle.wa_types.specs.Runtime.{func_space, global_space, with_runtime}
-use Rattle.wa_types.specs.Sizes.{SizeRule}
-use Rattle.wa_types.specs.Validity.{Valid}
-use Rattle.wa_types.specs.View.{func_of, module_of}
-use Rattle.wa_model.specs.Rewrites.{Rewrites}
-use Rattle.asyncify_runtime.specs.Reserved.{reserved_at}
+use Rattle.wa_types.specs.Modules.{func_imports}
+use Rattle.wa_types.specs.Runtime.{func_space, global_space}
+use Rattle.wa_types.specs.View.{module_of}
 use Rattle.call_graph.specs.Settings.{settings_of}
-use Rattle.live_rewrite.specs.EmittedAs.{EmittedAs}
-use Rattle.live_rewrite.specs.PolicyLaws.{CanBeEmitted, EachReadsFew}
-use Rattle.live_rewrite.proofs.PolicyCases.{functions_law, rewrites_as, sizes_as, valid_as}
-use Rattle.live_rewrite.proofs.PolicyReads.{emitted_reads}
-use Rattle.module_rewrite.specs.Emitting.{Emits, AllEmitted}
+use Rattle.flatten.specs.Whole.{NonePasses}
+use Rattle.module_rewrite.specs.Layouts.{LaidOut}
 use Rattle.module_rewrite.specs.Whole.{Asyncifies}
-use Rattle.module_rewrite.proofs.FreeNames.{unreserved_is_free}
-use Rattle.module_rewrite.proofs.WholeLemmas.{emits_fault, few_written, globals_small, made_space, none_is, space_small}
+use Rattle.module_rewrite.proofs.WholeLemmas.{globals_small, space_small, which_long}
 use Rattle.module_rewrite.proofs.whole.asyncify_module.Goals as goal
+
+pub returns-in_err-made : goal.returns-in_err-made
+returns-in_err-made c =
+    let p = err_from_is_err_and c.from_residual.result c.from_residual.ensures.1 in
+    subst (Asyncifies (module_of c.args.valid.now) (settings_of c.args.settings.now)) (sym p.1)
+    (subst (λ z. Asyncifies (module_of c.args.valid.now) (settings_of c.args.settings.now) (Err z)) (sym p.2) c.in_err-made.ensures)
 
 pub ids_behind-ids-requires-clause-funcs : goal.ids_behind-ids-requires-clause-funcs
 ids_behind-ids-requires-clause-funcs c =
-    let v = c.args.valid.now in
-    let m = module_of v in
-    let same = c.module-module.ensures.same in
-    subst (λ (z : ModuleValue). func_space (module_of z) < 2 ^ 31) (sym same) (space_small m c.requires.sizes)
+    subst (λ (z : ModuleValue). func_space (module_of z) < 2 ^ 31) (sym c.module.ensures.same) (space_small (module_of c.args.valid.now) c.requires.sizes)
 
 pub ids_behind-ids-requires-clause-globals : goal.ids_behind-ids-requires-clause-globals
 ids_behind-ids-requires-clause-globals c =
-    let v = c.args.valid.now in
-    let m = module_of v in
-    let same = c.module-module.ensures.same in
-    subst (λ (z : ModuleValue). global_space (module_of z) < 2 ^ 31) (sym same) (globals_small m c.requires.sizes)
+    subst (λ (z : ModuleValue). global_space (module_of z) < 2 ^ 31) (sym c.module.ensures.same) (globals_small (module_of c.args.valid.now) c.requires.sizes)
 
-pub returns-in_err-emitted : goal.returns-in_err-emitted
-returns-in_err-emitted c =
-    let v = c.args.valid.now in
-    let m = module_of v in
-    let same = c.module-module.ensures.same in
-    let s = settings_of c.args.settings.now in
-    let which = c.in_ok-which.which.items in
-    let free : reserved_at m ≡ None = ap (λ (z : ModuleValue). reserved_at (module_of z)) (sym same) ∙ sym c.reserved.ensures ∙ none_is c.reserved.result c.in_default.not-Some in
-    let p = err_from_is_err_and c.from_residual-in_err-emitted.result c.from_residual-in_err-emitted.ensures.1 in
-    let h = subst (λ w. Emits m s w (Err c.in_err-emitted.field-0.0)) c.deref.ensures.value c.in_err-emitted.ensures in
-    subst (Asyncifies m s) (sym p.1) (subst (λ z. Asyncifies m s (Err z)) (sym p.2) (emits_fault m s which c.in_err-emitted.field-0.0 free c.in_ok-which.ensures h))
+pub func_layouts-requires-clause-which : goal.func_layouts-requires-clause-which
+func_layouts-requires-clause-which c =
+    ap length c.deref.ensures.value ∙ which_long (module_of c.args.valid.now) (settings_of c.args.settings.now) c.in_ok-made.made.instrumented.items c.in_ok-made.ensures.tells
 
-pub with_parts-requires-clause-funcs : goal.with_parts-requires-clause-funcs
-with_parts-requires-clause-funcs c =
-    let v = c.args.valid.now in
-    let m = module_of v in
-    let same = c.module-module.ensures.same in
-    let s = settings_of c.args.settings.now in
-    let which = c.in_ok-which.which.items in
-    let valid = subst (λ (z : ModuleValue). Valid (module_of z)) same c.module-module.ensures.valid in
-    let free : reserved_at m ≡ None = ap (λ (z : ModuleValue). reserved_at (module_of z)) (sym same) ∙ sym c.reserved.ensures ∙ none_is c.reserved.result c.in_default.not-Some in
-    let emitted : AllEmitted m s which c.in_ok-emitted.emitted = subst (λ w. AllEmitted m s w c.in_ok-emitted.emitted) c.deref.ensures.value c.in_ok-emitted.ensures in
-    let gs = map func_of c.in_ok-emitted.emitted.funcs.items in
-    let made : module_of c.in_ok-inner.inner ≡ record m { funcs = gs } = c.in_ok-inner.ensures ∙ ap (λ (z : ModuleValue). record (module_of z) { funcs = gs }) same in
-    let can : CanBeEmitted m s which = record { valid = valid; sizes = c.requires.sizes; few = few_written m which emitted.few; tells = c.in_ok-which.ensures } in
-    let as_ : EmittedAs m s which (with_runtime (record m { funcs = gs })) = functions_law m s which gs emitted.funcs in
-    subst (λ q. func_space q < 2 ^ 31) (sym made) (made_space m s which gs emitted.funcs c.requires.sizes)
+pub func_layouts-requires-clause-listed : goal.func_layouts-requires-clause-listed
+func_layouts-requires-clause-listed c = c.deref-2.ensures.value ∙ c.in_ok-made.ensures.listed
 
-pub with_parts-requires-clause-globals : goal.with_parts-requires-clause-globals
-with_parts-requires-clause-globals c =
-    let v = c.args.valid.now in
-    let m = module_of v in
-    let same = c.module-module.ensures.same in
-    let s = settings_of c.args.settings.now in
-    let which = c.in_ok-which.which.items in
-    let valid = subst (λ (z : ModuleValue). Valid (module_of z)) same c.module-module.ensures.valid in
-    let free : reserved_at m ≡ None = ap (λ (z : ModuleValue). reserved_at (module_of z)) (sym same) ∙ sym c.reserved.ensures ∙ none_is c.reserved.result c.in_default.not-Some in
-    let emitted : AllEmitted m s which c.in_ok-emitted.emitted = subst (λ w. AllEmitted m s w c.in_ok-emitted.emitted) c.deref.ensures.value c.in_ok-emitted.ensures in
-    let gs = map func_of c.in_ok-emitted.emitted.funcs.items in
-    let made : module_of c.in_ok-inner.inner ≡ record m { funcs = gs } = c.in_ok-inner.ensures ∙ ap (λ (z : ModuleValue). record (module_of z) { funcs = gs }) same in
-    let can : CanBeEmitted m s which = record { valid = valid; sizes = c.requires.sizes; few = few_written m which emitted.few; tells = c.in_ok-which.ensures } in
-    let as_ : EmittedAs m s which (with_runtime (record m { funcs = gs })) = functions_law m s which gs emitted.funcs in
-    subst (λ q. global_space q < 2 ^ 31) (sym made) (globals_small m c.requires.sizes)
-
-pub with_parts-requires-clause-free : goal.with_parts-requires-clause-free
-with_parts-requires-clause-free c =
-    let v = c.args.valid.now in
-    let m = module_of v in
-    let same = c.module-module.ensures.same in
-    let s = settings_of c.args.settings.now in
-    let which = c.in_ok-which.which.items in
-    let valid = subst (λ (z : ModuleValue). Valid (module_of z)) same c.module-module.ensures.valid in
-    let free : reserved_at m ≡ None = ap (λ (z : ModuleValue). reserved_at (module_of z)) (sym same) ∙ sym c.reserved.ensures ∙ none_is c.reserved.result c.in_default.not-Some in
-    let emitted : AllEmitted m s which c.in_ok-emitted.emitted = subst (λ w. AllEmitted m s w c.in_ok-emitted.emitted) c.deref.ensures.value c.in_ok-emitted.ensures in
-    let gs = map func_of c.in_ok-emitted.emitted.funcs.items in
-    let made : module_of c.in_ok-inner.inner ≡ record m { funcs = gs } = c.in_ok-inner.ensures ∙ ap (λ (z : ModuleValue). record (module_of z) { funcs = gs }) same in
-    let can : CanBeEmitted m s which = record { valid = valid; sizes = c.requires.sizes; few = few_written m which emitted.few; tells = c.in_ok-which.ensures } in
-    let as_ : EmittedAs m s which (with_runtime (record m { funcs = gs })) = functions_law m s which gs emitted.funcs in
-    subst (λ q. reserved_at q ≡ None) (sym made) free
-
-pub with_parts-requires-clause-valid : goal.with_parts-requires-clause-valid
-with_parts-requires-clause-valid c =
-    let v = c.args.valid.now in
-    let m = module_of v in
-    let same = c.module-module.ensures.same in
-    let s = settings_of c.args.settings.now in
-    let which = c.in_ok-which.which.items in
-    let valid = subst (λ (z : ModuleValue). Valid (module_of z)) same c.module-module.ensures.valid in
-    let free : reserved_at m ≡ None = ap (λ (z : ModuleValue). reserved_at (module_of z)) (sym same) ∙ sym c.reserved.ensures ∙ none_is c.reserved.result c.in_default.not-Some in
-    let emitted : AllEmitted m s which c.in_ok-emitted.emitted = subst (λ w. AllEmitted m s w c.in_ok-emitted.emitted) c.deref.ensures.value c.in_ok-emitted.ensures in
-    let gs = map func_of c.in_ok-emitted.emitted.funcs.items in
-    let made : module_of c.in_ok-inner.inner ≡ record m { funcs = gs } = c.in_ok-inner.ensures ∙ ap (λ (z : ModuleValue). record (module_of z) { funcs = gs }) same in
-    let can : CanBeEmitted m s which = record { valid = valid; sizes = c.requires.sizes; few = few_written m which emitted.few; tells = c.in_ok-which.ensures } in
-    let as_ : EmittedAs m s which (with_runtime (record m { funcs = gs })) = functions_law m s which gs emitted.funcs in
-    subst (λ q. Valid (with_runtime q)) (sym made) (valid_as m s which (with_runtime (record m { funcs = gs })) can (unreserved_is_free m free) as_)
-
-pub with_parts-requires-clause-sizes : goal.with_parts-requires-clause-sizes
-with_parts-requires-clause-sizes c =
-    let v = c.args.valid.now in
-    let m = module_of v in
-    let same = c.module-module.ensures.same in
-    let s = settings_of c.args.settings.now in
-    let which = c.in_ok-which.which.items in
-    let valid = subst (λ (z : ModuleValue). Valid (module_of z)) same c.module-module.ensures.valid in
-    let free : reserved_at m ≡ None = ap (λ (z : ModuleValue). reserved_at (module_of z)) (sym same) ∙ sym c.reserved.ensures ∙ none_is c.reserved.result c.in_default.not-Some in
-    let emitted : AllEmitted m s which c.in_ok-emitted.emitted = subst (λ w. AllEmitted m s w c.in_ok-emitted.emitted) c.deref.ensures.value c.in_ok-emitted.ensures in
-    let gs = map func_of c.in_ok-emitted.emitted.funcs.items in
-    let made : module_of c.in_ok-inner.inner ≡ record m { funcs = gs } = c.in_ok-inner.ensures ∙ ap (λ (z : ModuleValue). record (module_of z) { funcs = gs }) same in
-    let can : CanBeEmitted m s which = record { valid = valid; sizes = c.requires.sizes; few = few_written m which emitted.few; tells = c.in_ok-which.ensures } in
-    let as_ : EmittedAs m s which (with_runtime (record m { funcs = gs })) = functions_law m s which gs emitted.funcs in
-    subst (λ q. SizeRule (with_runtime q)) (sym made) (sizes_as m s which (with_runtime (record m { funcs = gs })) can as_)
+pub func_layouts-requires-clause-few : goal.func_layouts-requires-clause-few
+func_layouts-requires-clause-few c =
+    let m = module_of c.args.valid.now in
+    subst (λ w. NonePasses m (drop (func_imports m) w) m.funcs) (sym c.deref.ensures.value) c.in_ok-made.ensures.few
 
 pub returns : goal.returns
 returns c =
-    let v = c.args.valid.now in
-    let m = module_of v in
-    let same = c.module-module.ensures.same in
-    let s = settings_of c.args.settings.now in
-    let which = c.in_ok-which.which.items in
-    let valid = subst (λ (z : ModuleValue). Valid (module_of z)) same c.module-module.ensures.valid in
-    let free : reserved_at m ≡ None = ap (λ (z : ModuleValue). reserved_at (module_of z)) (sym same) ∙ sym c.reserved.ensures ∙ none_is c.reserved.result c.in_default.not-Some in
-    let emitted : AllEmitted m s which c.in_ok-emitted.emitted = subst (λ w. AllEmitted m s w c.in_ok-emitted.emitted) c.deref.ensures.value c.in_ok-emitted.ensures in
-    let gs = map func_of c.in_ok-emitted.emitted.funcs.items in
-    let made : module_of c.in_ok-inner.inner ≡ record m { funcs = gs } = c.in_ok-inner.ensures ∙ ap (λ (z : ModuleValue). record (module_of z) { funcs = gs }) same in
-    let can : CanBeEmitted m s which = record { valid = valid; sizes = c.requires.sizes; few = few_written m which emitted.few; tells = c.in_ok-which.ensures } in
-    let as_ : EmittedAs m s which (with_runtime (record m { funcs = gs })) = functions_law m s which gs emitted.funcs in
-    let is = c.in_ok-rewritten.ensures.done ∙ ap with_runtime made in
+    let m = module_of c.args.valid.now in
+    let made = c.in_ok-made.ensures in
     record {
-      free = free;
-      tells = c.in_ok-which.ensures;
-      few = emitted.few;
-      emitted = subst (EmittedAs m s which) (sym is) as_;
-      rewrites = subst (Rewrites m s) (sym is) (rewrites_as m s which (with_runtime (record m { funcs = gs })) can (unreserved_is_free m free) as_);
-      reads = subst (EachReadsFew m s which) (sym is) (emitted_reads m s which (with_runtime (record m { funcs = gs })) can as_);
-      layouts = emitted.layouts;
+      free = made.free;
+      tells = made.tells;
+      few = made.few;
+      emitted = made.emitted;
+      rewrites = made.rewrites;
+      reads = made.reads;
+      layouts = subst (λ w. LaidOut m (settings_of c.args.settings.now) w (func_imports m) (drop (func_imports m) w) m.funcs c.in_ok-layouts.layouts.items)
+          c.deref.ensures.value c.in_ok-layouts.ensures;
     }

@@ -1,25 +1,9 @@
--- What is opened is staged, and told.
-use Rattle.std.proofs.Common.{List, sym, subst}
-use Rattle.std.specs.List.{AllZip}
-use Rattle.wa_types.specs.declared.syntax.Module.{Module}
-use Rattle.script_verdicts.specs.Views.{CanStage}
-use Rattle.script_command.specs.Ends.{call}
-use Rattle.script_command.proofs.Ending.{out_of_memory_alone}
-use Rattle.script_command.proofs.StagedParts.{few_staged, staged_parts}
+-- What is opened is played, by whether it has strands.
+use Rattle.script_command.proofs.NoStrands.{plainly_ready}
 use Rattle.script_command.proofs.playing.play.Goals as goal
 
-pub stage_all-requires : goal.stage_all-requires
-stage_all-requires g c = subst (λ (ms : List Module). AllZip CanStage ms c.args.opened.programs.planned.items) (sym c.deref.ensures.value) c.requires.plays.each
+pub play_plainly-requires-clause-plays : goal.play_plainly-requires-clause-plays
+play_plainly-requires-clause-plays g c = plainly_ready c.args.opened c.requires.ready c.in-None.is
 
-pub tell-requires-clause-few : goal.tell-requires-clause-few
-tell-requires-clause-few g c = few_staged c.args.opened _ _ c.requires.plays c.in-Ok.ensures
-
-pub returns-in-Ok-clause-end : goal.returns-in-Ok-clause-end
-returns-in-Ok-clause-end g c = λ way files name f f' opens.
-    c.tell.ensures.end way files name f f' opens.play
-    (staged_parts c.args.opened.programs.planned.items c.deref.result.now c.args.opened.programs.modules.items opens.play.parts _ opens.parts_are c.deref.ensures.value c.in-Ok.ensures)
-    opens.detaches_are
-
-pub returns-in-Err-clause-end : goal.returns-in-Err-clause-end
-returns-in-Err-clause-end g c = λ way files name f f' opens.
-    out_of_memory_alone (call way name files f f' _ _ _ _ _ _) c.out_of_memory.result c.out_of_memory.ensures.status c.out_of_memory.ensures.printed
+pub play_strands-requires-clause-some : goal.play_strands-requires-clause-some
+play_strands-requires-clause-some g c = (_, c.in-Some.is)

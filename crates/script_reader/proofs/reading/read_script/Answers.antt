@@ -1,7 +1,7 @@
 -- A line more is read, or the first fault is told.
 use Rattle.std.proofs.Common.{arith, ap, ◌∙◌}
 use Rattle.std.specs.Str.Lines.{lines}
-use Rattle.wa_model.specs.ScriptText.{script_text}
+use Rattle.script_model.specs.ScriptText.{script_text}
 use Rattle.script_reader.specs.Drafts.{read_on}
 use Rattle.script_reader.specs.Views.{reading_of, script_of}
 use Rattle.script_reader.proofs.Told.{reads_text}

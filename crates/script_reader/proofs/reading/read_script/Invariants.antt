@@ -1,6 +1,6 @@
 use Rattle.std.proofs.Common.{◌≡◌, ◌+◌, ◌≤◌, suc, length}
 use Rattle.std.specs.Str.Lines.{lines}
-use Rattle.wa_model.specs.ScriptText.{script_text}
+use Rattle.script_model.specs.ScriptText.{script_text}
 use Rattle.script_reader.specs.Drafts.{read_on}
 use Rattle.script_reader.specs.Views.{reading_of}
 use Rattle.script_reader.proofs.reading.read_script.Given as goal

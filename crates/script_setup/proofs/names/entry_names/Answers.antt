@@ -1,7 +1,7 @@
 use Rattle.std.proofs.Common.{◌∙◌}
 use Rattle.script_reader.specs.declared.script.EntryText.{EntryText as EntryValue}
 use Rattle.script_reader.specs.Views.{entry_of}
-use Rattle.wa_model.specs.Script.{EntryText}
+use Rattle.script_model.specs.Script.{EntryText}
 use Rattle.script_setup.proofs.Gathered.{list_next, map_all}
 use Rattle.script_setup.proofs.names.entry_names.Goals as goal
 

@@ -1,7 +1,7 @@
 use Rattle.wa_types.specs.declared.syntax.Import.{Import}
 use Rattle.wa_types.specs.Modules.{imported_func}
 use Rattle.wa_types.specs.Pausing.{joined_name}
-use Rattle.wa_model.specs.World.{name_if}
+use Rattle.world_model.specs.World.{name_if}
 use Rattle.script_setup.proofs.Gathered.{filter_all, filter_next}
 use Rattle.script_setup.proofs.names.import_names.Goals as goal
 

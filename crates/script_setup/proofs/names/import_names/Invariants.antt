@@ -3,7 +3,7 @@ use Rattle.std.specs.List.{filter_map}
 use Rattle.wa_types.specs.declared.syntax.Import.{Import}
 use Rattle.wa_types.specs.Modules.{imported_func}
 use Rattle.wa_types.specs.Pausing.{joined_name}
-use Rattle.wa_model.specs.World.{name_if}
+use Rattle.world_model.specs.World.{name_if}
 use Rattle.script_setup.proofs.names.import_names.Given as goal
 
 abbrev pub invariant-loop-import : goal.invariant-loop-import

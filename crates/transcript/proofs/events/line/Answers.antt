@@ -1,5 +1,5 @@
 -- The parts of a line, joined.
-use Rattle.wa_model.specs.Transcript.{event_line}
+use Rattle.script_model.specs.Transcript.{event_line}
 use Rattle.transcript.proofs.Joined.{three}
 use Rattle.transcript.proofs.events.line.Goals as goal
 

@@ -1,5 +1,5 @@
 use Rattle.std.proofs.Common.{refl}
-use Rattle.wa_model.specs.Transcript.{printed_bytes, hex_pair}
+use Rattle.script_model.specs.Transcript.{printed_bytes, hex_pair}
 use Rattle.transcript.proofs.Joined.{last_text, next_text}
 use Rattle.transcript.proofs.parts.put_bytes.Goals as goal
 

@@ -1,5 +1,5 @@
 use Rattle.std.proofs.Common.{◌≡◌, ◌++◌, drop}
-use Rattle.wa_model.specs.Transcript.{printed_bytes}
+use Rattle.script_model.specs.Transcript.{printed_bytes}
 use Rattle.transcript.proofs.parts.put_bytes.Given as goal
 
 abbrev pub invariant-loop-byte : goal.invariant-loop-byte

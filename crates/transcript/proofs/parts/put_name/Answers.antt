@@ -1,5 +1,5 @@
 use Rattle.std.proofs.Common.{◌+◌, ◌++◌, List, ℕ, ap, drop, refl, sym, ◌∙◌}
-use Rattle.wa_model.specs.Transcript.{printed_name, name_byte}
+use Rattle.script_model.specs.Transcript.{printed_name, name_byte}
 use Rattle.transcript.proofs.Joined.{last_text, next_text}
 use Rattle.transcript.proofs.parts.put_name.Goals as goal
 

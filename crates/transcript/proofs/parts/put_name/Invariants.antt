@@ -1,5 +1,5 @@
 use Rattle.std.proofs.Common.{◌≡◌, ◌++◌, drop}
-use Rattle.wa_model.specs.Transcript.{printed_name}
+use Rattle.script_model.specs.Transcript.{printed_name}
 use Rattle.transcript.proofs.parts.put_name.Given as goal
 
 abbrev pub invariant-loop-byte : goal.invariant-loop-byte

@@ -1,7 +1,7 @@
 use Rattle.std.proofs.Common.{refl, ◌++◌}
 use Rattle.std.specs.Prelude.{codes}
 use Rattle.wa_types.specs.declared.values.Value.{Value}
-use Rattle.wa_model.specs.Transcript.{behind_spaces, printed_value}
+use Rattle.script_model.specs.Transcript.{behind_spaces, printed_value}
 use Rattle.transcript.proofs.Joined.{last_text, next_text, two_parts}
 use Rattle.transcript.proofs.parts.put_values.Goals as goal
 

@@ -1,5 +1,5 @@
 use Rattle.std.proofs.Common.{◌≡◌, ◌++◌, drop}
-use Rattle.wa_model.specs.Transcript.{behind_spaces}
+use Rattle.script_model.specs.Transcript.{behind_spaces}
 use Rattle.transcript.proofs.parts.put_values.Given as goal
 
 abbrev pub invariant-loop-value : goal.invariant-loop-value

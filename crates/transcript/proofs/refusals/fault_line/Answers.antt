@@ -1,5 +1,5 @@
 -- The parts of a refusal's line, joined.
-use Rattle.wa_model.specs.Transcript.{refusal_line}
+use Rattle.script_model.specs.Transcript.{refusal_line}
 use Rattle.transcript.proofs.Joined.{three}
 use Rattle.transcript.proofs.refusals.fault_line.Goals as goal
 

@@ -10,9 +10,8 @@ use Rattle.validate_bodies.specs.Running.{fine, fault}
 use Rattle.wa_types.proofs.LeafLemmas.{leaf_other}
 use Rattle.validate_bodies.specs.Stack.{known_at}
 use Rattle.validate_bodies.proofs.Lists.{known_none, level_on, popped_back, restored}
-use Rattle.validate_table.proofs.InstrKinds.{size_step, size_empty}
-use Rattle.validate_bodies.proofs.Trees.{judged_err, judged_memory, judged_same, size_of_block, size_of_loop, size_of_if, passed_by, passed_then, pushed_on, same_checks, moved_checks, labels_are, turned, body_on, body_end, popped_none, popped_some}
-use Rattle.validate_bodies.proofs.Trees.{block_arm, loop_arm, if_arm, if_fault, plain_size, plain_is, go_on, stop_at, none_is, instrs, bodies}
+use Rattle.validate_bodies.proofs.InstrKinds.{size_step, size_empty}
+use Rattle.validate_bodies.proofs.Trees.{judged_err, judged_memory, judged_same, size_of_block, size_of_loop, size_of_if, passed_by, passed_then, pushed_on, same_checks, moved_checks, labels_are, turned, body_on, body_end, popped_none, popped_some, block_arm, loop_arm, if_arm, if_fault, plain_size, plain_goes, plain_stops, none_is, instrs, bodies}
 use Rattle.validate_bodies.proofs.bodies.+check.Goals as goal
 
 pub check_body-loop-instr-init : goal.check_body-loop-instr-init
@@ -38,8 +37,11 @@ check_instr-check_body-requires-in-If t c = (search (rules, the_lemmas), grind (
 pub check_instr-check_body-requires-in-If-2 : goal.check_instr-check_body-requires-in-If-2
 check_instr-check_body-requires-in-If-2 t c = (search (rules, the_lemmas), grind (arith, instrs))
 
-pub check_instr-asks_at-requires : goal.check_instr-asks_at-requires
-check_instr-asks_at-requires t c = leaf_other _ c.in_default.not-Block c.in_default.not-Loop c.in_default.not-If
+pub check_instr-apply_leaf-requires-clause-leaf : goal.check_instr-apply_leaf-requires-clause-leaf
+check_instr-apply_leaf-requires-clause-leaf t c = leaf_other _ c.in_default.not-Block c.in_default.not-Loop c.in_default.not-If
+
+pub check_instr-apply_leaf-requires-clause-deep : goal.check_instr-apply_leaf-requires-clause-deep
+check_instr-apply_leaf-requires-clause-deep t c = c.requires.deep
 
 pub check_instr-overflow_add-at-in_default : goal.check_instr-overflow_add-at-in_default
 check_instr-overflow_add-at-in_default t c = omega (arith, plain_size _ c.in_default.not-Block c.in_default.not-Loop c.in_default.not-If)
@@ -52,8 +54,8 @@ check_instr-returns-in_default-2 t c =
       level = rw none at c.in_ok-rule-in_default.ensures.level;
       place = omega (arith, plain_size _ c.in_default.not-Block c.in_default.not-Loop c.in_default.not-If);
       judged = λ rest outs.
-          plain_is _ _ outs _ _ _ _ rest c.in_default.not-Block c.in_default.not-Loop c.in_default.not-If c.asks_at.result (rw c.deref-in_default.ensures.value at c.asks_at.ensures)
-          ∙ go_on _ _ _ _ _ (rw none at c.in_ok-rule-in_default.ensures.applied)
+          plain_goes _ _ outs _ _ _ _ rest c.in_default.not-Block c.in_default.not-Loop c.in_default.not-If _ _
+          (rw (none, c.deref-in_default.ensures.value) at c.in_ok-rule-in_default.ensures.applied)
           ∙ same_checks _ _ _ _ _ _ _ _ _ _ refl refl (omega arith);
     }
 
@@ -63,8 +65,8 @@ check_instr-returns-in-Some t c = record {
   level = tt;
   place = tt;
   judged = λ rest outs.
-      plain_is _ _ outs _ _ _ _ rest c.in_default.not-Block c.in_default.not-Loop c.in_default.not-If c.asks_at.result (rw c.deref-in_default.ensures.value at c.asks_at.ensures)
-      ∙ stop_at _ _ _ _ _ _ (rw c.in-Some.is at c.in_ok-rule-in_default.ensures.applied);
+      plain_stops _ _ outs _ _ _ _ rest c.in_default.not-Block c.in_default.not-Loop c.in_default.not-If _ _ _
+      (rw (c.in-Some.is, c.deref-in_default.ensures.value) at c.in_ok-rule-in_default.ensures.applied);
 }
 
 pub check_body-loop-instr-preserved : goal.check_body-loop-instr-preserved
@@ -76,7 +78,7 @@ check_body-loop-instr-preserved t c =
       level = level_on _ _ _ old.level new.level;
       place = omega (arith, old.place, new.place, size_step c.args.body.now c.loop-instr.instr-index c.instr-item.result (omega arith) c.instr-item.is);
       judged = turned _ _ _ c.args.body.now c.loop-instr.instr-index _ _ _ _ _ _ _ _ _ (ap reverse new.labels) (omega arith) c.instr-item.is old.judged
-          (new.judged (code (drop (c.loop-instr.instr-index + 1) c.args.body.now)) (listed c.args.gives));
+          (new.judged (code (drop (c.loop-instr.instr-index + 1) c.args.body.now)) (listed c.args.frame.gives));
     }
 
 pub check_body-returns-in_err-check_instr : goal.check_body-returns-in_err-check_instr
@@ -87,8 +89,8 @@ check_body-returns-in_err-check_instr t c = record {
   known = IfOk-from_err c.from_residual-in_err-check_instr.result _ c.from_residual-in_err-check_instr.ensures.0;
   place = IfOk-from_err c.from_residual-in_err-check_instr.result _ c.from_residual-in_err-check_instr.ensures.0;
   judged =
-      judged_same _ _ _ _ _ _ c.from_residual-in_err-check_instr.ensures.1 (c.in_err-check_instr.ensures.judged (code (drop (c.loop-instr.instr-index + 1) c.args.body.now)) (listed c.args.gives))
-      (body_on _ _ _ c.args.body.now c.loop-instr.instr-index _ _ _ _ _ (labels_are _ _ _ _ c.in_ok-push.ensures.items c.loop-instr.invariant.labels) c.loop-instr.invariant.judged _
+      judged_same _ _ _ _ _ _ c.from_residual-in_err-check_instr.ensures.1 (c.in_err-check_instr.ensures.judged (code (drop (c.loop-instr.instr-index + 1) c.args.body.now)) (listed c.args.frame.gives))
+      (body_on _ _ _ c.args.body.now c.loop-instr.instr-index _ _ _ _ _ (labels_are _ _ _ _ c.in_ok-push_label.ensures c.loop-instr.invariant.labels) c.loop-instr.invariant.judged _
       (omega arith) c.instr-item.is);
 }
 
@@ -100,7 +102,7 @@ check_body-returns-then-not-ends t c = record {
   known = tt;
   place = tt;
   judged =
-      body_end _ _ _ c.args.body.now c.loop-instr.instr-index _ _ _ _ _ (labels_are _ _ _ _ c.in_ok-push.ensures.items c.loop-instr.invariant.labels) c.loop-instr.invariant.judged (omega arith)
+      body_end _ _ _ c.args.body.now c.loop-instr.instr-index _ _ _ _ _ (labels_are _ _ _ _ c.in_ok-push_label.ensures c.loop-instr.invariant.labels) c.loop-instr.invariant.judged (omega arith)
       ∙ ap (λ b. if b then fine else fault (number StackTypes) c.loop-instr.at) (sym c.if-not-ends.ensures.ended);
 }
 
@@ -111,19 +113,19 @@ check_body-returns t c =
     (level_on _ _ _ c.loop-instr.invariant.level c.if-not-ends.ensures.level) (c.ends.ensures.bare c.if-not-ends.false ∙ c.loop-instr.invariant.level.base) in
     record {
       labels =
-          popped_back _ c.loop-instr.labels.items _ c.args.label c.loop-instr.labels.len (c.loop-instr.invariant.labels ∙ c.in_ok-push.ensures.items) c.pop.ensures.rest
+          popped_back _ c.loop-instr.labels.items _ c.args.frame.label c.loop-instr.labels.len (c.loop-instr.invariant.labels ∙ c.in_ok-push_label.ensures) c.pop.ensures.rest
           c.loop-instr.labels.ok.0;
       level = record { base = refl; kept = ap (take c.args.o.now.base) same; deep = omega (arith, c.requires.deep, ap length same) };
       free = refl;
       known = ap (known_at c.args.o.now.base) same;
       place = omega (arith, c.loop-instr.invariant.place, size_empty c.args.body.now c.loop-instr.instr-index (omega arith));
       judged =
-          body_end _ _ _ c.args.body.now c.loop-instr.instr-index _ _ _ _ _ (labels_are _ _ _ _ c.in_ok-push.ensures.items c.loop-instr.invariant.labels) c.loop-instr.invariant.judged (omega arith)
+          body_end _ _ _ c.args.body.now c.loop-instr.instr-index _ _ _ _ _ (labels_are _ _ _ _ c.in_ok-push_label.ensures c.loop-instr.invariant.labels) c.loop-instr.invariant.judged (omega arith)
           ∙ ap (λ b. if b then fine else fault (number StackTypes) c.loop-instr.at) (sym c.if-not-ends.ensures.ended);
     }
 
-pub check_body-returns-in_err-push : goal.check_body-returns-in_err-push
-check_body-returns-in_err-push t c = record {
+pub check_body-returns-in_err-push_label : goal.check_body-returns-in_err-push_label
+check_body-returns-in_err-push_label t c = record {
   labels = IfOk-from_err c.from_residual.result _ c.from_residual.ensures.0;
   level = IfOk-from_err c.from_residual.result _ c.from_residual.ensures.0;
   free = IfOk-from_err c.from_residual.result _ c.from_residual.ensures.0;
@@ -278,9 +280,6 @@ check_instr-push_result-requires-in-Loop t c = c.in_ok-check_body-in-Loop.ensure
 
 pub check_instr-push_result-requires-in-If : goal.check_instr-push_result-requires-in-If
 check_instr-push_result-requires-in-If t c = c.in_ok-check_body-in-If-2.ensures.level.deep
-
-pub check_instr-apply-requires : goal.check_instr-apply-requires
-check_instr-apply-requires t c = c.requires.deep
 
 pub check_instr-overflow_add-at : goal.check_instr-overflow_add-at
 check_instr-overflow_add-at t c = omega (arith, c.requires.room, size_of_block _ c.in-Block.result c.in-Block.body c.in-Block.body.items refl c.in-Block.is)

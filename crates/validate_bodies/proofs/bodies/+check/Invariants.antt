@@ -11,6 +11,6 @@ invariant-check_body-loop-instr l = record {
   labels : l.labels.items ≡ l.initial.labels.items;
   level : Level l.initial.o l.o;
   place : l.at + size (code (drop l.instr-index l.body)) ≡ l.initial.at + size (code l.body);
-  judged : checks l.context (reverse l.labels.items) (code (drop l.instr-index l.body)) (listed l.gives) (known l.o) l.o.free l.at
-      ≡ checks l.context (reverse l.labels.items) (code l.body) (listed l.gives) [] false l.initial.at;
+  judged : checks l.context (reverse l.labels.items) (code (drop l.instr-index l.body)) (listed l.frame.gives) (known l.o) l.o.free l.at
+      ≡ checks l.context (reverse l.labels.items) (code l.body) (listed l.frame.gives) [] false l.initial.at;
 }

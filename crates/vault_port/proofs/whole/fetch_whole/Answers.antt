@@ -30,6 +30,6 @@ fetching-preserved g c =
       within = omega (arith, c.in_ok-count.ensures.count, c.as_mut_slice.ensures.len);
       bound = c.in_ok-make_room.ensures.bound;
       kept = c.in_ok-count.ensures.kept ∙ c.fetching.invariant.kept;
-      rising = omega (arith, c.fetching.invariant.rising, c.in_ok-count.ensures.faults);
+      steady = c.in_ok-count.ensures.stays (λ e. cc) ∙ c.fetching.invariant.steady;
       saves = c.in_ok-count.ensures.saves ∙ c.fetching.invariant.saves;
     }

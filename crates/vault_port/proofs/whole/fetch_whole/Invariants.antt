@@ -10,7 +10,7 @@ invariant-fetching g l =
       within : l.done ≤ vec_len l.bytes;
       bound : vec_len l.bytes ≤ l.limit;
       kept : g.V.Vault.files l.vault ≡ g.V.Vault.files l.fn.vault;
-      rising : g.V.Vault.fetch_faults l.fn.vault ≤ g.V.Vault.fetch_faults l.vault;
+      steady : g.V.Vault.fetch_faults l.vault ≡ g.V.Vault.fetch_faults l.fn.vault;
       saves : g.V.Vault.save_faults l.vault ≡ g.V.Vault.save_faults l.fn.vault;
     }
 

@@ -1,4 +1,4 @@
-use Rattle.std.proofs.Common.{length, take, ap, arith}
+use Rattle.std.proofs.Common.{◌∙◌, length, take, ap, arith}
 use Rattle.std.proofs.lemmas.List.{take_rest, length-drop}
 use Rattle.vault_port.specs.Taken.{Appends}
 use Rattle.vault_port.proofs.Telling.{Becomes_then}
@@ -14,5 +14,5 @@ putting-preserved g c =
     record {
       within = omega (arith, long, length-drop done bytes, c.in-Ok.ensures.count);
       taken = Becomes_then (Appends (take done bytes)) _ _ (Appends_more bytes _ done c.in-Ok.count piece) _ _ _ c.putting.invariant.taken c.in-Ok.ensures.taken;
-      rising = omega (arith, c.in-Ok.ensures.rising);
+      steady = c.in-Ok.ensures.stays (λ e. cc) ∙ c.putting.invariant.steady;
     }

@@ -1,4 +1,4 @@
-use Rattle.std.proofs.Common.{length, ap, inl, inr, refl, arith}
+use Rattle.std.proofs.Common.{◌∙◌, length, ap, inl, inr, refl, arith}
 use Rattle.std.proofs.lemmas.List.{take_rest, length-drop}
 use Rattle.vault_port.proofs.Telling.{Becomes_same, Becomes_then, told_since}
 use Rattle.vault_port.proofs.Pieces.{HasFront, HasFront_all, HasFront_cut, HasFront_more, HasFront_within}
@@ -15,7 +15,7 @@ saving-preserved g c =
       within = omega (arith, long, length-drop done bytes, c.in-Ok.ensures.count);
       front = Becomes_then (HasFront name bytes done) _ _ (λ old mid new before now. inl (HasFront_more name bytes _ done c.in-Ok.count piece old mid new before now)) _ _ _
           c.saving.invariant.front c.in-Ok.ensures.saved;
-      rising = omega (arith, c.in-Ok.ensures.faults);
+      steady = c.in-Ok.ensures.stays (λ e. cc) ∙ c.saving.invariant.steady;
       fetches = cc;
     }
 
@@ -38,7 +38,7 @@ saving-init g c =
     record {
       within = omega arith;
       front = Becomes_same (HasFront c.args.name.now c.args.bytes.now 0) (λ files. inr (refl, refl)) _;
-      rising = omega arith;
+      steady = refl;
       fetches = refl;
     }
 

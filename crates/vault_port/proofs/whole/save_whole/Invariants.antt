@@ -8,7 +8,7 @@ invariant-saving g l =
     record {
       within : l.done ≤ length l.bytes;
       front : Becomes (g.V.Vault.files l.fn.vault) (g.V.Vault.files l.vault) (HasFront l.name l.bytes l.done);
-      rising : g.V.Vault.save_faults l.fn.vault ≤ g.V.Vault.save_faults l.vault;
+      steady : g.V.Vault.save_faults l.vault ≡ g.V.Vault.save_faults l.fn.vault;
       fetches : g.V.Vault.fetch_faults l.vault ≡ g.V.Vault.fetch_faults l.fn.vault;
     }
 

@@ -2,9 +2,9 @@ use Rattle.std.proofs.Common.{◌≡◌, ◌+◌, length}
 use Rattle.wa_types.specs.Encoding.{Enc}
 use Rattle.wa_types.specs.Syntax.{Module}
 use Rattle.wa_types.specs.View.{module_of}
-use Rattle.wasm_encode.specs.Around.{IsAround}
+use Rattle.wasm_encode.specs.Around.{code_entries, HoldsEntries, IsAround}
 use Rattle.wasm_encode.specs.Modules.{places_from}
 use Rattle.wasm_encode.proofs.around.around_len.Given as goal
 
 abbrev pub invariant-loop-id : goal.invariant-loop-id
-invariant-loop-id l = (p : Module) → IsAround (module_of l.«module») l.entries p → l.len + length (places_from l.id p) ≡ length (Enc p)
+invariant-loop-id l = (p : Module) → IsAround (module_of l.«module») p → HoldsEntries l.entries (code_entries p) → l.len + length (places_from l.id p) ≡ length (Enc p)

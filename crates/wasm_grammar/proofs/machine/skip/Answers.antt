@@ -1,5 +1,5 @@
 use Rattle.std.proofs.Common.{ap, ◌∙◌, max}
-use Rattle.wasm_goals.specs.Goals.{goal_of}
+use Rattle.wasm_grammar.specs.Goals.{goal_of}
 use Rattle.wasm_grammar.proofs.Faults.{skips_to}
 use Rattle.wasm_grammar.proofs.machine.skip.Goals as goal
 

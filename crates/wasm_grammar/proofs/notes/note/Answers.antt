@@ -1,6 +1,6 @@
 use Rattle.std.proofs.Common.{sym, subst, drop}
-use Rattle.wasm_goals.specs.Goals.{goal_of}
-use Rattle.wasm_marks.specs.Showing.{Noted, shown}
+use Rattle.wasm_grammar.specs.Goals.{goal_of}
+use Rattle.file_laws.specs.Showing.{Noted, shown}
 use Rattle.wasm_grammar.proofs.Marking.{at_level, awaits_second}
 use Rattle.wasm_grammar.proofs.notes.note.Goals as goal
 

@@ -1,6 +1,6 @@
 use Rattle.std.proofs.Common.{sym, subst}
-use Rattle.wasm_goals.specs.Goals.{kind_of}
-use Rattle.wasm_marks.specs.Showing.{Noted, entry_shown}
+use Rattle.wasm_grammar.specs.Goals.{kind_of}
+use Rattle.file_laws.specs.Showing.{Noted, entry_shown}
 use Rattle.wasm_grammar.proofs.notes.note_entry.Goals as goal
 
 pub returns-in-Globals : goal.returns-in-Globals

@@ -1,5 +1,5 @@
 use Rattle.std.proofs.Common.{sym, subst, cond, nat_eq}
-use Rattle.wasm_marks.specs.Showing.{Noted, functions_seen, nothing_seen}
+use Rattle.file_laws.specs.Showing.{Noted, functions_seen, nothing_seen}
 use Rattle.wasm_grammar.proofs.notes.note_import.Goals as goal
 
 pub returns-then-value-eq0 : goal.returns-then-value-eq0

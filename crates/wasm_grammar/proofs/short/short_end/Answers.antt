@@ -1,6 +1,6 @@
 use Rattle.std.proofs.Common.{◌≡◌, Some, get_or, false, ap, ◌∙◌, subst, arith}
 use Rattle.wa_types.specs.Opcodes.{follows, is_float_op}
-use Rattle.wasm_cursor.specs.Forms.{form_of}
+use Rattle.wasm_grammar.specs.Forms.{form_of}
 use Rattle.wasm_grammar.specs.Passing.{Passes}
 use Rattle.wasm_grammar.proofs.ShortItems.{some_both, passes_nothing, passes_index, passes_access, passes_constant}
 use Rattle.wasm_grammar.proofs.short.short_end.Goals as goal

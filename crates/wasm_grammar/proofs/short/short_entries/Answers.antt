@@ -1,5 +1,5 @@
 use Rattle.std.proofs.Common.{◌≡◌, subst, arith}
-use Rattle.wasm_goals.specs.Goals.{kind_of}
+use Rattle.wasm_grammar.specs.Goals.{kind_of}
 use Rattle.wasm_grammar.specs.Passing.{IsEntryByte, PassesEntries}
 use Rattle.wasm_grammar.proofs.ShortItems.{passes_more}
 use Rattle.wasm_grammar.proofs.short.short_entries.Goals as goal

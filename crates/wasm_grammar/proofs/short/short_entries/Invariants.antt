@@ -1,4 +1,4 @@
-use Rattle.wasm_goals.specs.Goals.{kind_of}
+use Rattle.wasm_grammar.specs.Goals.{kind_of}
 use Rattle.wasm_grammar.specs.Passing.{PassesEntries}
 use Rattle.wasm_grammar.proofs.short.short_entries.Given as goal
 

@@ -15,35 +15,35 @@ unreachable-requires c =
     let f = file_of c.args.bounds.now c.args.file.now.all c.requires.few c.requires.whole in
     let shallow = c.in_default.ensures c.args.file.now.all f.0 f.1 (c.requires.marks (short_file c.args.bounds.now c.args.file.now.all c.requires.columns c.requires.few) f.0 f.1.spells) in
     let m = module_in c.args.bounds.now c.args.file.now.all f.0 shallow in
-    let e = left_fails c.args.bounds.now c.args.file.now.all c.args.left.now c.args.base c.args.builder c.in-Err-NotSpelled.field-0 c.requires.left c.in-Err-NotSpelled.ensures f.0 shallow m.0 m.1 in
+    let e = left_fails c.args.bounds.now c.args.file.now.all c.args.rest.left.now c.args.rest.base c.args.rest.builder c.in-Err-NotSpelled.field-0 c.requires.left c.in-Err-NotSpelled.ensures f.0 shallow m.0 m.1 in
     not_memory (sym c.in-Err-NotSpelled.field-0-is ∙ e)
 
 pub locals_above-requires : goal.locals_above-requires
 locals_above-requires c =
     let s = stands c.args.bounds.now c.args.file.now.all (module_of c.in-Ok.module) c.requires.few c.requires.whole
     (λ ss f. c.in_default.ensures c.args.file.now.all ss f (c.requires.marks (short_file c.args.bounds.now c.args.file.now.all c.requires.columns c.requires.few) ss f.spells))
-    (left_built c.args.bounds.now c.args.file.now.all c.args.left.now c.args.base c.args.builder c.in-Ok.module c.requires.left c.in-Ok.ensures) in
+    (left_built c.args.bounds.now c.args.file.now.all c.args.rest.left.now c.args.rest.base c.args.rest.builder c.in-Ok.module c.requires.left c.in-Ok.ensures) in
     few_runs c.args.bounds.now c.args.file.now.all c.in-Ok.module s (few_bytes c.args.bounds.now c.args.file.now.all c.requires.columns c.requires.few)
 
 pub returns-in-Some-locals_above-clause-refused : goal.returns-in-Some-locals_above-clause-refused
 returns-in-Some-locals_above-clause-refused c =
     let s = stands c.args.bounds.now c.args.file.now.all (module_of c.in-Ok.module) c.requires.few c.requires.whole
     (λ ss f. c.in_default.ensures c.args.file.now.all ss f (c.requires.marks (short_file c.args.bounds.now c.args.file.now.all c.requires.columns c.requires.few) ss f.spells))
-    (left_built c.args.bounds.now c.args.file.now.all c.args.left.now c.args.base c.args.builder c.in-Ok.module c.requires.left c.in-Ok.ensures) in
+    (left_built c.args.bounds.now c.args.file.now.all c.args.rest.left.now c.args.rest.base c.args.rest.builder c.in-Ok.module c.requires.left c.in-Ok.ensures) in
     (s.sections, s.shallow, too_many c.args.bounds.now c.args.file.now.all (module_of c.in-Ok.module) c.locals.result c.in-Some-locals_above.found s c.locals.ensures c.in-Some-locals_above.ensures)
 
 pub returns-clause-ok : goal.returns-clause-ok
 returns-clause-ok c =
     let s = stands c.args.bounds.now c.args.file.now.all (module_of c.in-Ok.module) c.requires.few c.requires.whole
     (λ ss f. c.in_default.ensures c.args.file.now.all ss f (c.requires.marks (short_file c.args.bounds.now c.args.file.now.all c.requires.columns c.requires.few) ss f.spells))
-    (left_built c.args.bounds.now c.args.file.now.all c.args.left.now c.args.base c.args.builder c.in-Ok.module c.requires.left c.in-Ok.ensures) in
+    (left_built c.args.bounds.now c.args.file.now.all c.args.rest.left.now c.args.rest.base c.args.rest.builder c.in-Ok.module c.requires.left c.in-Ok.ensures) in
     accepted c.args.bounds.now c.args.file.now.all (module_of c.in-Ok.module) c.locals.result s c.locals.ensures c.in_default-locals_above.ensures
 
 pub returns-clause-sizes : goal.returns-clause-sizes
 returns-clause-sizes c =
     let s = stands c.args.bounds.now c.args.file.now.all (module_of c.in-Ok.module) c.requires.few c.requires.whole
     (λ ss f. c.in_default.ensures c.args.file.now.all ss f (c.requires.marks (short_file c.args.bounds.now c.args.file.now.all c.requires.columns c.requires.few) ss f.spells))
-    (left_built c.args.bounds.now c.args.file.now.all c.args.left.now c.args.base c.args.builder c.in-Ok.module c.requires.left c.in-Ok.ensures) in
+    (left_built c.args.bounds.now c.args.file.now.all c.args.rest.left.now c.args.rest.base c.args.rest.builder c.in-Ok.module c.requires.left c.in-Ok.ensures) in
     accepted_sizes c.args.bounds.now c.args.file.now.all (module_of c.in-Ok.module) c.requires.columns
     (accepted c.args.bounds.now c.args.file.now.all (module_of c.in-Ok.module) c.locals.result s c.locals.ensures c.in_default-locals_above.ensures)
 
@@ -51,7 +51,7 @@ pub returns-clause-source_sizes : goal.returns-clause-source_sizes
 returns-clause-source_sizes c = λ source.
     let s = stands c.args.bounds.now c.args.file.now.all (module_of c.in-Ok.module) c.requires.few c.requires.whole
     (λ ss f. c.in_default.ensures c.args.file.now.all ss f (c.requires.marks (short_file c.args.bounds.now c.args.file.now.all c.requires.columns c.requires.few) ss f.spells))
-    (left_built c.args.bounds.now c.args.file.now.all c.args.left.now c.args.base c.args.builder c.in-Ok.module c.requires.left c.in-Ok.ensures) in
+    (left_built c.args.bounds.now c.args.file.now.all c.args.rest.left.now c.args.rest.base c.args.rest.builder c.in-Ok.module c.requires.left c.in-Ok.ensures) in
     accepted_strictly c.args.bounds.now c.args.file.now.all (module_of c.in-Ok.module) source
     (accepted c.args.bounds.now c.args.file.now.all (module_of c.in-Ok.module) c.locals.result s c.locals.ensures c.in_default-locals_above.ensures)
 
@@ -59,6 +59,6 @@ pub returns-clause-short : goal.returns-clause-short
 returns-clause-short c =
     let s = stands c.args.bounds.now c.args.file.now.all (module_of c.in-Ok.module) c.requires.few c.requires.whole
     (λ ss f. c.in_default.ensures c.args.file.now.all ss f (c.requires.marks (short_file c.args.bounds.now c.args.file.now.all c.requires.columns c.requires.few) ss f.spells))
-    (left_built c.args.bounds.now c.args.file.now.all c.args.left.now c.args.base c.args.builder c.in-Ok.module c.requires.left c.in-Ok.ensures) in
+    (left_built c.args.bounds.now c.args.file.now.all c.args.rest.left.now c.args.rest.base c.args.rest.builder c.in-Ok.module c.requires.left c.in-Ok.ensures) in
     written_short c.args.file.now.all (module_of c.in-Ok.module) (accepted_spelled c.args.bounds.now c.args.file.now.all (module_of c.in-Ok.module)
     (accepted c.args.bounds.now c.args.file.now.all (module_of c.in-Ok.module) c.locals.result s c.locals.ensures c.in_default-locals_above.ensures))

@@ -3,83 +3,135 @@ use Rattle.std.proofs.Common.{arith, [], ℕ, List, length, map, refl, ◌∙◌
 use Rattle.std.specs.Prelude.{OnErr, OnOk}
 use Rattle.vault_port.specs.Taken.{Appends, AppendsLess}
 use Rattle.vault_port.specs.Told.{Becomes}
-use Rattle.wa_model.specs.Transcript.{last_line}
+use Rattle.script_model.specs.Transcript.{last_line}
 use Rattle.wa_model.specs.View.{line_of}
 use Rattle.many_host.specs.Calls.{devices_of}
+use Rattle.many_host.specs.Standing.{held_of}
+use Rattle.many_host.proofs.FewLines.{few_told}
 use Rattle.transcript.specs.Printing.{names_of}
 use Rattle.world_hosting.specs.Counts.{counted}
-use Rattle.world_hosting.specs.Worlds.{world_programs}
-use Rattle.world_hosting.proofs.Printed.{host_counted, host_seen, if_err, line_begins, line_takes, line_told, none_left, none_takes, none_told, on_ok}
-use Rattle.world_hosting.proofs.Printed.{told_less, told_less_last, told_on, told_so_far, told_whole, world_counted}
-use Rattle.printing.proofs.LineTexts.{nothing_yet}
+use Rattle.world_hosting.proofs.Printed.{host_seen, if_err, has_failed, line_begins, line_counted, line_told, none_left, none_met, none_told, on_ok, told_less, told_less_last, told_on, told_so_far, told_whole, within_names, world_counted}
+use Rattle.transcript.proofs.LineTexts.{nothing_yet}
 use Rattle.world_hosting.proofs.telling.tell_lines.Goals as goal
 
 pub telling-init : goal.telling-init
 telling-init g c = record {
-  told = λ parts detaches h none are. record { lines = []; host = h; took = (none, refl); printed = nothing_yet _ };
+  told = λ earlier programs parts detaches b.
+      let ds = devices_of (counted (λ z. (goal.Device-dyn g z).seen z.1) (λ z. (goal.Device-dyn g z).faults z.1) c.args.devices.now) in (
+        record {
+          told = record { lines = []; host = b.told ds; met = []; took = (b.begun, refl); meets = none_met earlier programs detaches ds c.args.host.now ds (b.told ds) b.begun };
+          printed = nothing_yet _;
+        },
+        refl,
+      );
   range = c.requires.range;
   same_list = refl;
-  rising = omega arith;
+  steady = refl;
 }
 
 pub telling-preserved : goal.telling-preserved
 telling-preserved g c = record {
-  told = λ parts detaches h none are.
-      let t = c.telling.invariant.told parts detaches h none are in
+  told = λ earlier programs parts detaches b.
+      let so_far = c.telling.invariant.told earlier programs parts detaches b in
+      let t = so_far.0 in
       let ds = devices_of (counted (λ z. (goal.Device-dyn g z).seen z.1) (λ z. (goal.Device-dyn g z).faults z.1) c.args.devices.now) in
-      let told = host_seen (λ z. (goal.Device-dyn g z).seen z.1) (λ z. (goal.Device-dyn g z).faults z.1) (world_programs parts) detaches ds t.lines c.telling.devices c.telling.host t.host in
       let next =
-      line_told parts detaches ds t.lines c.next.new.self _ c.in-Ok.next c.in-Some.line c.in-Some.is (c.in-Ok.ensures.told (world_programs parts) detaches ds t.lines told) in
-      let takes = line_takes (world_programs parts) c.in-Ok.next c.in-Some.line _ _ _ c.in-Some.is (c.in-Ok.ensures.calls (world_programs parts) detaches ds t.lines told) in
+      line_told earlier programs detaches ds t.told.lines t.told.host.tellers _ _ _ c.next_without_mail.new.self _ c.in-Ok.next c.in-Some.line c.in-Some.is
+      (c.in-Ok.ensures.told_from earlier programs detaches ds t.told.lines
+      (host_seen (λ z. (goal.Device-dyn g z).seen z.1) (λ z. (goal.Device-dyn g z).faults z.1) earlier programs detaches ds t.told.lines c.telling.devices c.telling.host t.told.host)) in
+      let counts = line_counted (λ z. (goal.Device-dyn g z).seen z.1) (λ z. (goal.Device-dyn g z).faults z.1) earlier programs detaches ds t.told.lines t.told.host.tellers _ _ (line_of c.in-Some.line) c.next_without_mail.new.devices c.next_without_mail.new.self next in
       let begins = line_begins _ _ _ c.in-Ok.next c.in-Some.line c.in-Some.is c.in-Ok.ensures.begun in
-      told_on parts detaches _ c.telling.host _ _ _ t c.next.new.self _ (map names_of c.args.names.now) are (line_of c.in-Some.line)
-      (host_counted (λ z. (goal.Device-dyn g z).seen z.1) (λ z. (goal.Device-dyn g z).faults z.1) (world_programs parts) detaches ds _ c.next.new.devices c.next.new.self next) _
-      begins takes c.in_default-put_line.ensures.printed;
+      let more =
+      told_on earlier programs parts detaches _ c.telling.host _ _ _ t c.next_without_mail.new.self _ (map names_of c.args.names.now) b.names_are (line_of c.in-Some.line) counts begins _
+      c.in_default-put_line.ensures.printed in
+      (more.0, omega (arith, more.1, so_far.1));
   range = c.in-Ok.ensures.range;
-  same_list = c.next.ensures.same_list ∙ c.telling.invariant.same_list;
-  rising = omega (arith, c.telling.invariant.rising, c.put_line.ensures.faults);
+  same_list = c.next_without_mail.ensures.same_list ∙ c.telling.invariant.same_list;
+  steady = c.in_default-put_line.ensures.stays (λ e. cc) ∙ c.telling.invariant.steady;
 }
 
 pub returns-in_default-clause-part : goal.returns-in_default-clause-part
-returns-in_default-clause-part g c = λ parts detaches h none are. told_so_far parts detaches _ c.telling.host _ _ _ (c.telling.invariant.told parts detaches h none are) _
-
-pub returns-clause-part : goal.returns-clause-part
-returns-clause-part g c = λ parts detaches h none are. told_so_far parts detaches _ c.telling.host _ _ _ (c.telling.invariant.told parts detaches h none are) _
+returns-in_default-clause-part g c = λ earlier programs parts detaches b.
+    let t = (c.telling.invariant.told earlier programs parts detaches b).0 in
+    let ds = devices_of (counted (λ z. (goal.Device-dyn g z).seen z.1) (λ z. (goal.Device-dyn g z).faults z.1) c.args.devices.now) in
+    told_so_far earlier programs parts detaches _ c.telling.host _ _ _ t _
+    (c.next_without_mail.ensures.left_from earlier programs detaches ds t.told.lines
+    (host_seen (λ z. (goal.Device-dyn g z).seen z.1) (λ z. (goal.Device-dyn g z).faults z.1) earlier programs detaches ds t.told.lines c.telling.devices c.telling.host t.told.host) (has_failed c.next_without_mail.result c.in_default.not-Ok))
 
 pub returns-in_default-next-clause-told : goal.returns-in_default-next-clause-told
-returns-in_default-next-clause-told g c = λ parts detaches h none are.
-    let t = c.telling.invariant.told parts detaches h none are in
+returns-in_default-next-clause-told g c = λ earlier programs parts detaches b.
+    let t = (c.telling.invariant.told earlier programs parts detaches b).0 in
     let ds = devices_of (counted (λ z. (goal.Device-dyn g z).seen z.1) (λ z. (goal.Device-dyn g z).faults z.1) c.args.devices.now) in
-    let told = host_seen (λ z. (goal.Device-dyn g z).seen z.1) (λ z. (goal.Device-dyn g z).faults z.1) (world_programs parts) detaches ds t.lines c.telling.devices c.telling.host t.host in
-    let world = none_told parts detaches ds t.lines c.next.new.self _ c.in-Ok.next c.in_default-next.is (c.in-Ok.ensures.told (world_programs parts) detaches ds t.lines told) in
-    let kept = none_takes (world_programs parts) c.in-Ok.next _ _ _ c.in_default-next.is (c.in-Ok.ensures.calls (world_programs parts) detaches ds t.lines told) in
+    let world =
+    none_told earlier programs detaches ds t.told.lines t.told.host.tellers _ _ _ c.next_without_mail.new.self _ c.in-Ok.next c.in_default-next.is
+    (c.in-Ok.ensures.told_from earlier programs detaches ds t.told.lines
+    (host_seen (λ z. (goal.Device-dyn g z).seen z.1) (λ z. (goal.Device-dyn g z).faults z.1) earlier programs detaches ds t.told.lines c.telling.devices c.telling.host t.told.host)) in
+    let both = world_counted (λ z. (goal.Device-dyn g z).seen z.1) (λ z. (goal.Device-dyn g z).faults z.1) earlier programs detaches ds t.told.lines c.next_without_mail.new.devices t.told.host.tellers (world.0, world.1) in
     on_ok c.put_last.result
-    (told_whole parts detaches _ c.telling.host _ _ _ t _ c.args.names.now are
-    (world_counted (λ z. (goal.Device-dyn g z).seen z.1) (λ z. (goal.Device-dyn g z).faults z.1) (world_programs parts) detaches ds t.lines c.next.new.devices world) kept
+    (told_whole earlier programs parts detaches _ c.telling.host _ _ _ t _ c.args.names.now b.names_are both.0 both.1 world.2
     (none_left _ _ c.in-Ok.next c.in_default-next.is c.in-Ok.ensures.none) _)
     (subst (λ (s : List ℕ). OnOk c.put_last.result (Becomes (g.S.Sink.taken c.telling.out) (g.S.Sink.taken c.put_last.new.out) (Appends s)))
     (λ k. last_line (length c.args.names.now) (c.events-events.ensures k)) c.put_last.ensures.printed)
 
 pub returns-in_default-next-clause-part : goal.returns-in_default-next-clause-part
-returns-in_default-next-clause-part g c = λ parts detaches h none are.
-    let t = c.telling.invariant.told parts detaches h none are in
+returns-in_default-next-clause-part g c = λ earlier programs parts detaches b.
+    let t = (c.telling.invariant.told earlier programs parts detaches b).0 in
     let ds = devices_of (counted (λ z. (goal.Device-dyn g z).seen z.1) (λ z. (goal.Device-dyn g z).faults z.1) c.args.devices.now) in
-    let told = host_seen (λ z. (goal.Device-dyn g z).seen z.1) (λ z. (goal.Device-dyn g z).faults z.1) (world_programs parts) detaches ds t.lines c.telling.devices c.telling.host t.host in
-    let world = none_told parts detaches ds t.lines c.next.new.self _ c.in-Ok.next c.in_default-next.is (c.in-Ok.ensures.told (world_programs parts) detaches ds t.lines told) in
-    let kept = none_takes (world_programs parts) c.in-Ok.next _ _ _ c.in_default-next.is (c.in-Ok.ensures.calls (world_programs parts) detaches ds t.lines told) in
+    let world =
+    none_told earlier programs detaches ds t.told.lines t.told.host.tellers _ _ _ c.next_without_mail.new.self _ c.in-Ok.next c.in_default-next.is
+    (c.in-Ok.ensures.told_from earlier programs detaches ds t.told.lines
+    (host_seen (λ z. (goal.Device-dyn g z).seen z.1) (λ z. (goal.Device-dyn g z).faults z.1) earlier programs detaches ds t.told.lines c.telling.devices c.telling.host t.told.host)) in
+    let both = world_counted (λ z. (goal.Device-dyn g z).seen z.1) (λ z. (goal.Device-dyn g z).faults z.1) earlier programs detaches ds t.told.lines c.next_without_mail.new.devices t.told.host.tellers (world.0, world.1) in
     if_err _ c.put_last.result
-    (λ fault. told_less_last parts detaches _ c.telling.host _ _ _ t _ c.args.names.now are
-    (world_counted (λ z. (goal.Device-dyn g z).seen z.1) (λ z. (goal.Device-dyn g z).faults z.1) (world_programs parts) detaches ds t.lines c.next.new.devices world) kept
+    (λ fault. told_less_last earlier programs parts detaches _ c.telling.host _ _ _ t _ c.args.names.now b.names_are both.0 both.1 world.2
     (none_left _ _ c.in-Ok.next c.in_default-next.is c.in-Ok.ensures.none) fault _)
     (subst (λ (s : List ℕ). OnErr c.put_last.result (Becomes (g.S.Sink.taken c.telling.out) (g.S.Sink.taken c.put_last.new.out) (AppendsLess s)))
     (λ k. last_line (length c.args.names.now) (c.events-events.ensures k)) c.put_last.ensures.less)
 
 pub returns-in-Err-clause-part : goal.returns-in-Err-clause-part
-returns-in-Err-clause-part g c = λ parts detaches h none are.
-    let t = c.telling.invariant.told parts detaches h none are in
+returns-in-Err-clause-part g c = λ earlier programs parts detaches b.
+    let t = (c.telling.invariant.told earlier programs parts detaches b).0 in
     let ds = devices_of (counted (λ z. (goal.Device-dyn g z).seen z.1) (λ z. (goal.Device-dyn g z).faults z.1) c.args.devices.now) in
-    let told = host_seen (λ z. (goal.Device-dyn g z).seen z.1) (λ z. (goal.Device-dyn g z).faults z.1) (world_programs parts) detaches ds t.lines c.telling.devices c.telling.host t.host in
-    let next = line_told parts detaches ds t.lines c.next.new.self _ c.in-Ok.next c.in-Some.line c.in-Some.is (c.in-Ok.ensures.told (world_programs parts) detaches ds t.lines told) in
-    told_less parts detaches _ c.telling.host _ _ _ t c.next.new.self _ (map names_of c.args.names.now) are (line_of c.in-Some.line)
-    (host_counted (λ z. (goal.Device-dyn g z).seen z.1) (λ z. (goal.Device-dyn g z).faults z.1) (world_programs parts) detaches ds _ c.next.new.devices c.next.new.self next) _ c.in-Err.fault _
+    let next =
+    line_told earlier programs detaches ds t.told.lines t.told.host.tellers _ _ _ c.next_without_mail.new.self _ c.in-Ok.next c.in-Some.line c.in-Some.is
+    (c.in-Ok.ensures.told_from earlier programs detaches ds t.told.lines
+    (host_seen (λ z. (goal.Device-dyn g z).seen z.1) (λ z. (goal.Device-dyn g z).faults z.1) earlier programs detaches ds t.told.lines c.telling.devices c.telling.host t.told.host)) in
+    let counts = line_counted (λ z. (goal.Device-dyn g z).seen z.1) (λ z. (goal.Device-dyn g z).faults z.1) earlier programs detaches ds t.told.lines t.told.host.tellers _ _ (line_of c.in-Some.line) c.next_without_mail.new.devices c.next_without_mail.new.self next in
+    let begins = line_begins _ _ _ c.in-Ok.next c.in-Some.line c.in-Some.is c.in-Ok.ensures.begun in
+    told_less earlier programs parts detaches _ c.telling.host _ _ _ t c.next_without_mail.new.self _ (map names_of c.args.names.now) b.names_are (line_of c.in-Some.line) counts begins c.in-Err.fault _
     c.in-Err.ensures.less
+
+pub next_without_mail-requires-clause-tells : goal.next_without_mail-requires-clause-tells
+next_without_mail-requires-clause-tells g c =
+    let b = c.requires.begins in
+    let so_far = (c.telling.invariant.told b.earlier b.programs b.parts b.detaches b.begins).0 in
+    let t = so_far.told in
+    let ds = devices_of (counted (λ z. (goal.Device-dyn g z).seen z.1) (λ z. (goal.Device-dyn g z).faults z.1) c.args.devices.now) in
+    record {
+      begun = b.earlier;
+      programs = b.programs;
+      detaches = b.detaches;
+      devices = ds;
+      lines = t.lines;
+      stands = host_seen (λ z. (goal.Device-dyn g z).seen z.1) (λ z. (goal.Device-dyn g z).faults z.1) b.earlier b.programs b.detaches ds t.lines c.telling.devices c.telling.host t.host;
+    }
+
+pub put_line-requires : goal.put_line-requires
+put_line-requires g c =
+    let b = c.requires.begins in
+    let begins = b.begins in
+    let t = (c.telling.invariant.told b.earlier b.programs b.parts b.detaches begins).0 in
+    let ds = devices_of (counted (λ z. (goal.Device-dyn g z).seen z.1) (λ z. (goal.Device-dyn g z).faults z.1) c.args.devices.now) in
+    let next =
+    line_told b.earlier b.programs b.detaches ds t.told.lines t.told.host.tellers _ _ _ c.next_without_mail.new.self _ c.in-Ok.next c.in-Some.line c.in-Some.is
+    (c.in-Ok.ensures.told_from b.earlier b.programs b.detaches ds t.told.lines
+    (host_seen (λ z. (goal.Device-dyn g z).seen z.1) (λ z. (goal.Device-dyn g z).faults z.1) b.earlier b.programs b.detaches ds t.told.lines c.telling.devices c.telling.host t.told.host)) in
+    within_names b.programs b.parts c.args.names.now (line_of c.in-Some.line) next.takes.w begins.wide begins.names_are next.takes.program
+
+pub unreachable-requires : goal.unreachable-requires
+unreachable-requires g c =
+    let b = c.requires.begins in
+    let so_far = c.telling.invariant.told b.earlier b.programs b.parts b.detaches b.begins in
+    let shows = c.telling.host.turns.shows in
+    let few = few_told b.earlier b.programs b.detaches _ so_far.0.told.lines (held_of c.telling.host.turns) _ c.telling.host.turns.stage so_far.0.told.host c.telling.invariant.range.few in
+    omega (arith, few, so_far.1, shows.ok.0, shows.ok.1, shows.small)

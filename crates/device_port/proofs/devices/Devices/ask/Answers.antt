@@ -46,3 +46,7 @@ pub returns-clause-meets_fault : goal.returns-clause-meets_fault
 returns-clause-meets_fault g c = λ failed import name first.
     meets_fault import c.args.base.now name c.args.args.now _ _ c.args.place first
     (unchanged _ _ _ c.index_mut-device.result.now _ c.index_mut-device.ensures.value (of_err c.ask_box.result _ failed c.ask_box.ensures.kept))
+
+pub returns-clause-steady : goal.returns-clause-steady
+returns-clause-steady g c =
+    IfOk-weaker c.ask_box.result _ _ (λ reply same. unchanged _ _ _ c.index_mut-device.result.now _ c.index_mut-device.ensures.value same) c.ask_box.ensures.steady

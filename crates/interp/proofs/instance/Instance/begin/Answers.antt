@@ -1,6 +1,6 @@
 use Rattle.interp.specs.Host.{code_in, store_in}
 use Rattle.interp.proofs.FittingTurns.{calls_fit_again}
-use Rattle.interp_reduce.proofs.RoomKept.{err_any}
+use Rattle.interp.proofs.RoomKept.{err_any}
 use Rattle.interp.proofs.instance.Instance.begin.Goals as goal
 
 pub returns-clause-calls : goal.returns-clause-calls

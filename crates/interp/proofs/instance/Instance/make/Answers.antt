@@ -2,12 +2,12 @@ use Rattle.std.proofs.Common.{◌≡◌, IfErr, sym, subst}
 use Rattle.wa_types.specs.Modules.{imported, imported_global}
 use Rattle.wa_types.specs.View.{module_of}
 use Rattle.wa_model.specs.Instantiation.{opening, opens}
-use Rattle.wa_model.specs.Fitting.{types_of, global_types, StoreFits}
-use Rattle.wa_model.proofs.FittingOpenings.{openings_fit}
-use Rattle.interp_make.specs.Faults.{FailsAs}
+use Rattle.run_theory.specs.Fitting.{types_of, global_types, StoreFits}
+use Rattle.run_theory.proofs.FittingOpenings.{openings_fit}
+use Rattle.interp_state.specs.Faults.{FailsAs}
 use Rattle.interp.specs.Host.{code_in, store_in}
 use Rattle.interp.proofs.FittingTurns.{both_ok}
-use Rattle.interp_reduce.proofs.RoomLemmas.{all_few}
+use Rattle.interp_state.proofs.RoomLemmas.{all_few}
 use Rattle.interp.proofs.instance.Instance.make.Goals as goal
 
 pub returns-clause-err : goal.returns-clause-err

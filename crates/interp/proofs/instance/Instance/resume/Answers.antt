@@ -1,13 +1,13 @@
 use Rattle.std.proofs.Common.{◌-◌, ◌∙◌, sym, subst}
 use Rattle.std.specs.Option.{option_to_list}
-use Rattle.wa_model.specs.Fitting.{types_of}
+use Rattle.run_theory.specs.Fitting.{types_of}
 use Rattle.interp.specs.Host.{code_in, store_in}
 use Rattle.interp.specs.Instance.{Awaits, ResumeLacks, Resumes, waits_of}
 use Rattle.interp.specs.WaitRooms.{WaitRoom}
-use Rattle.interp_reduce.specs.View.{store_of}
+use Rattle.interp_state.specs.View.{store_of}
 use Rattle.interp.proofs.FittingTurns.{turns_fit, answered_fits, answered_turns}
 use Rattle.interp.proofs.AnswerRoom.{answer_lacked, answered_lacks}
-use Rattle.interp_reduce.proofs.RoomKept.{err_any, operands_hold}
+use Rattle.interp.proofs.RoomKept.{err_any, operands_hold}
 use Rattle.interp.proofs.instance.Instance.resume.Goals as goal
 
 pub returns-in_ok-turn-in-Inside-clause-resumes : goal.returns-in_ok-turn-in-Inside-clause-resumes

@@ -1,28 +1,30 @@
-use Rattle.std.proofs.Common.{sym, ap, ◌∙◌, subst}
-use Rattle.interp.specs.Host.{store_in, waits_in}
-use Rattle.host_stages.specs.Views.{exports_in, left_of}
-use Rattle.pause_host.specs.Programs.{RunsCode, FollowsAt, place_of, end_at}
-use Rattle.pause_host.specs.declared.program.State.TheVariants.{Live}
-use Rattle.pause_host.proofs.Advancing.{in_state, ended_stage}
-use Rattle.std.proofs.lemmas.Result.{IfOk-weaker}
+use Rattle.std.proofs.Common.{ap, ◌∙◌}
+use Rattle.mail_laws.specs.MailWorld.{told_pause}
+use Rattle.pause_host.specs.Mailing.{awaits_in}
+use Rattle.pause_host.proofs.Advancing.{told_end}
+use Rattle.wa_model.specs.View.{event_of}
+use Rattle.world_model.specs.World.{call_in}
+use Rattle.pause_host.proofs.Stopping.{no_call_parked}
 use Rattle.pause_host.proofs.program.Program.advance.Goals as goal
 
-pub returns-in-Live-clause-next : goal.returns-in-Live-clause-next
-returns-in-Live-clause-next g c = λ w notes os f none.
-    let x = c.args.self.now in
-    let i = c.in-Live.instance in
-    let st = c.in-Live.stage in
-    let is = sym c.replace.ensures.value ∙ c.in-Live.is in
-    let at = subst (λ z. FollowsAt w notes os x (place_of x z)) is f.at in
-    let code = subst (RunsCode w.source) is f.code in
-    let more = sym (ended_stage (exports_in x.setting.exports) x.setting.area (left_of x.left) (store_in i) (waits_in i) st) ∙ ap (λ z. end_at (place_of x z)) (sym is) ∙ none in
-    c.live.ensures.next w notes os (in_state w notes os x c.replace.new.dest (place_of x (Live i st)) at) code more
+pub returns-clause-next : goal.returns-clause-next
+returns-clause-next g c = λ w notes os f none.
+    record { noted = c.in_ok-event.event; advances = c.in_ok-event.ensures.next w notes os f none; event_is = c.told_event.ensures c.step.new.self.setting }
 
-pub returns-in-Live-clause-again : goal.returns-in-Live-clause-again
-returns-in-Live-clause-again g c = λ how told.
-    let x = c.args.self.now in
-    let i = c.in-Live.instance in
-    let st = c.in-Live.stage in
-    let is = sym c.replace.ensures.value ∙ c.in-Live.is in
-    let e = sym (ended_stage (exports_in x.setting.exports) x.setting.area (left_of x.left) (store_in i) (waits_in i) st) ∙ ap (λ z. end_at (place_of x z)) (sym is) ∙ told in
-    IfOk-weaker c.live.result _ _ (λ event h. (h.0, h.1 ∙ ap (λ z. record x { state = z }) (sym is), h.2)) (c.live.ensures.again how e)
+pub returns-clause-again : goal.returns-clause-again
+returns-clause-again g c = λ how told.
+    let h = c.in_ok-event.ensures.again how told in
+    let r = awaits_in c.step.new.self.setting c.step.new.self.receive in
+    (c.told_event.ensures c.step.new.self.setting ∙ ap (told_pause r) h.0 ∙ told_end r how, h.1, h.2, h.3)
+
+pub returns-clause-ending : goal.returns-clause-ending
+returns-clause-ending g c = λ how told.
+    let h = c.in_ok-event.ensures.ending how told in
+    let r = awaits_in c.step.new.self.setting c.step.new.self.receive in
+    (c.told_event.ensures c.step.new.self.setting ∙ ap (told_pause r) h.0 ∙ told_end r how, h.1, h.2, h.3)
+
+pub returns-clause-stops : goal.returns-clause-stops
+returns-clause-stops g c = λ stops.
+    let h = c.in_ok-event.ensures.stops stops c.requires.awake in
+    let r = awaits_in c.step.new.self.setting c.step.new.self.receive in
+    (h.0, λ a is. ap call_in (c.told_event.ensures c.step.new.self.setting) ∙ no_call_parked r (event_of c.in_ok-event.event) ∙ h.1 a is)

@@ -1,20 +1,5 @@
-use Rattle.std.proofs.Common.{◌∙◌, ap, sym, refl, map, subst}
-use Rattle.wa_types.specs.Validity.{Valid}
-use Rattle.wa_types.specs.View.{module_of}
-use Rattle.wa_model.specs.View.{answer_line_of}
-use Rattle.host_setup.specs.SetUp.{set_up}
-use Rattle.host_setup.specs.Views.{entry_of as named_of}
-use Rattle.plan_parts.specs.Settings.{MakesSetting, calls_of}
-use Rattle.pause_host.proofs.Beginning.{follows}
+use Rattle.pause_host.proofs.FromPlans.{sets_up}
 use Rattle.pause_host.proofs.program.Program.new.Goals as goal
 
 pub returns : goal.returns
-returns c =
-    let x = c.args.plan in
-    let p = module_of x.«module».now in
-    let funcs = c.in_ok-funcs.funcs.items in
-    let up = ap (λ es. set_up p x.area (map named_of es)) (sym c.deref.ensures.value) ∙ c.in_ok-funcs.ensures in
-    let v = subst (λ m. Valid (module_of m)) c.module.ensures.same c.module.ensures.valid in
-    let made = subst (λ m. MakesSetting (module_of m) x.listed x.binds x.area x.steps c.in_ok-setting.setting) c.module.ensures.same c.in_ok-setting.ensures in
-    let calls = c.in_ok-entries.ensures ∙ ap (calls_of (map named_of x.entries.items)) c.deref-2.ensures.value in
-    (funcs, up, λ looks binds bound. follows x funcs looks binds bound c.requires v up _ refl refl made refl calls c.from_vec.ensures.items refl refl, ap (map answer_line_of) c.from_vec.ensures.items)
+returns c = sets_up c.args.plan c.requires c.of_plan.result c.of_plan.ensures.ok c.of_plan.ensures.err

@@ -1,5 +1,5 @@
 use Rattle.std.proofs.Common.{◌≡◌, ◌-◌, refl, ap, ◌∙◌, arith, length}
-use Rattle.wasm_cursor.specs.Places.{Place}
+use Rattle.wasm_grammar.specs.Places.{Place}
 use Rattle.wasm_build.specs.BuildsPieces.{stage_before}
 use Rattle.wasm_build.proofs.PieceParts.{entry_built, entry_waits}
 use Rattle.wasm_build.proofs.builder.Builder.entry.Goals as goal

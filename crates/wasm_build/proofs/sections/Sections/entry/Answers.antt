@@ -2,7 +2,7 @@ use Rattle.std.proofs.Common.{[], ◌∷◌, ◌++◌, refl, ap, sym}
 use Rattle.wa_types.specs.View.{func_type_of, global_of, elem_of, segment_of}
 use Rattle.wasm_build.specs.declared.sections.Entries.TheVariants.{Types, Imports, Functions, Tables, Memories, Globals, Exports, Elements, Segments}
 use Rattle.wasm_build.specs.BuildsModule.{state_of}
-use Rattle.build_types.proofs.Betweens.{map_same}
+use Rattle.wasm_build.proofs.Betweens.{map_same}
 use Rattle.wasm_build.proofs.SectionArms.{entry_put, kept_all, kept_same, put_all}
 use Rattle.wasm_build.proofs.sections.Sections.entry.Goals as goal
 

@@ -1,9 +1,8 @@
 use Rattle.std.proofs.Common.{◌<◌, ◌∷◌, ℕ, drop, subst, sym, length, arith}
 use Rattle.wa_types.specs.Begun.{Inside}
-use Rattle.wasm_goals.specs.Goals.{goal_of}
+use Rattle.wasm_grammar.specs.Goals.{goal_of}
 use Rattle.wasm_grammar.specs.Machine.{StopsAt, IsPartOf}
-use Rattle.wasm_grammar.proofs.Faults.{ready, on_from, reached_at, stop_at, end_room, ended_there, stop_there, fault_end, fault_wrong, fault_step, goes_on, goes_far, stop_last, waits_there}
-use Rattle.wasm_grammar.proofs.Faults.{on_true, on_false}
+use Rattle.wasm_grammar.proofs.Faults.{ready, on_from, reached_at, stop_at, end_room, ended_there, stop_there, fault_end, fault_wrong, fault_step, goes_on, goes_far, stop_last, waits_there, on_true, on_false}
 use Rattle.wasm_grammar.proofs.PieceEnds.{fault_none}
 use Rattle.wasm_grammar.proofs.machine.Machine.advance.Goals as goal
 

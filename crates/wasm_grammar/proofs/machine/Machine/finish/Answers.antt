@@ -1,7 +1,7 @@
 use Rattle.std.proofs.Common.{sym, ◌∙◌, arith, subst}
 use Rattle.wa_types.specs.Begun.{FaultAt}
 use Rattle.wasm_grammar.proofs.PieceEnds.{fault_more, fault_wanting, whole_there, marked_there}
-use Rattle.wasm_marks.proofs.Judged.{judged}
+use Rattle.file_laws.proofs.Judged.{judged}
 use Rattle.wasm_grammar.proofs.machine.Machine.finish.Goals as goal
 
 pub returns-then-self-last-clause-err : goal.returns-then-self-last-clause-err

@@ -1,4 +1,4 @@
-use Rattle.wasm_goals.specs.Goals.{goal_of}
+use Rattle.wasm_grammar.specs.Goals.{goal_of}
 use Rattle.wasm_grammar.proofs.ShortItems.{code_on, level_on, level_below, closed_on, closed_below}
 use Rattle.wasm_grammar.proofs.machine.Machine.pass_code.Goals as goal
 

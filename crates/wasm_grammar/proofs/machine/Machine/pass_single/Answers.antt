@@ -1,6 +1,6 @@
 use Rattle.std.proofs.Common.{refl, ◌-◌}
 use Rattle.wa_types.specs.Begun.{entries}
-use Rattle.wasm_goals.specs.Goals.{kind_of}
+use Rattle.wasm_grammar.specs.Goals.{kind_of}
 use Rattle.wasm_grammar.proofs.ShortItems.{entries_on, entries_below}
 use Rattle.wasm_grammar.proofs.machine.Machine.pass_single.Goals as goal
 

@@ -1,8 +1,8 @@
 use Rattle.std.proofs.Common.{rules, ap, sym, ◌∙◌, subst, reverse, List}
 use Rattle.wa_types.specs.declared.values.ValType.{ValType}
 use Rattle.wa_types.specs.Typing.{Takes}
-use Rattle.validate_modules.specs.Table.{sig_of}
-use Rattle.validate_modules.specs.Walk.{Walk, CanTake, own_at}
+use Rattle.validate_bodies.specs.Table.{sig_of}
+use Rattle.wasm_validate.specs.Walk.{Walk, CanTake, own_at}
 use Rattle.wa_types.proofs.LeafLemmas.{leaf_other}
 use Rattle.wasm_validate.proofs.Walks.{at_if, some_types, stays_is, own_is, same_place, on_err, says_at, can_walk, walked}
 use Rattle.wasm_validate.proofs.walk.Typing.advance.Goals as goal

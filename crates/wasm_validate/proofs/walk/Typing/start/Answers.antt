@@ -1,7 +1,7 @@
 use Rattle.std.proofs.Common.{ap, sym, ◌∙◌, ◌++◌, ◌∷◌, []}
 use Rattle.wa_types.specs.Typing.{Around}
 use Rattle.wa_types.specs.View.{module_of}
-use Rattle.validate_modules.specs.Walk.{around_or}
+use Rattle.wasm_validate.specs.Walk.{around_or}
 use Rattle.wasm_validate.proofs.Walks.{start_is}
 use Rattle.wasm_validate.proofs.walk.Typing.start.Goals as goal
 

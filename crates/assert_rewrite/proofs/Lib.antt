@@ -1,0 +1,5 @@
+pub mod CallLemmas
+mod EntriesWith
+mod ModuleBytes
+pub mod ReachedLemmas
+pub mod TestLemmas

@@ -1,0 +1,3 @@
+pub mod Asserting
+pub mod Emitting
+pub mod Testing

@@ -1,2 +1,0 @@
-pub mod CodeParts
-pub mod OpenLevels

@@ -1,2 +1,0 @@
-pub mod BuildsCode
-pub mod BuildsLevels

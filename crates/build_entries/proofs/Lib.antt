@@ -1,3 +1,0 @@
-pub mod CodeEntries
-pub mod KindParts
-pub mod SectionParts

@@ -1,2 +1,0 @@
-pub mod PlainNames
-pub mod PlainParts

@@ -1,3 +1,0 @@
-pub mod Betweens
-pub mod EntryParts
-pub mod Steps

@@ -1,9 +1,0 @@
-use Rattle.std.proofs.Common.{◌≤◌, length}
-use Rattle.build_types.proofs.Betweens.{Gotten}
-use Rattle.build_types.proofs.entry.fill.Given as goal
-
-abbrev pub invariant-loop-index : goal.invariant-loop-index
-invariant-loop-index g l = record {
-  left : length l.input.left ≤ length l.fn.input.left;
-  gotten : Gotten g.E.Entry.view g.E.Entry.spelled l.count l.fn.input l.fn.items.items l.items.items l._index l.input;
-}

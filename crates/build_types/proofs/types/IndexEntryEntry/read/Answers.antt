@@ -1,6 +1,0 @@
-use Rattle.wa_types.specs.Spells.{Number}
-use Rattle.build_types.proofs.Steps.{start, last_number}
-use Rattle.build_types.proofs.types.IndexEntryEntry.read.Goals as goal
-
-pub returns-clause-built : goal.returns-clause-built
-returns-clause-built c = last_number (λ x. x) _ (λ x. x) c.in_ok-number.ensures.read (λ x k e. e) (start (λ x. Number x) _ (λ x at bytes h. h))

@@ -1,6 +1,0 @@
-use Rattle.std.proofs.Common.{◌≡◌, take}
-use Rattle.call_classes.specs.Views.{fields_in, fields_of}
-use Rattle.call_classes.proofs.keeping.kept_locals.Given as goal
-
-abbrev pub invariant-loop-local : goal.invariant-loop-local
-invariant-loop-local l = fields_of l.kept.items ≡ fields_in 0 (take l.local l.set) l.types

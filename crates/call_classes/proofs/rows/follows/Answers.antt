@@ -1,5 +1,0 @@
-use Rattle.call_classes.proofs.RowLemmas.{follows_same}
-use Rattle.call_classes.proofs.rows.follows.Goals as goal
-
-pub returns : goal.returns
-returns c = follows_same c.args.call c.args.before c.if-call-before.false

@@ -1,5 +1,0 @@
-pub mod CallParts
-pub mod Classes
-pub mod CallRows
-pub mod Framed
-pub mod Views

@@ -1,2 +1,0 @@
-pub mod FlatNumbers
-pub mod NumberingLemmas

@@ -1,4 +1,0 @@
-pub mod DigitSteps
-pub mod FieldSteps
-pub mod MeasureSteps
-pub mod WeightSteps

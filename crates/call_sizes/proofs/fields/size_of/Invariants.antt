@@ -1,7 +1,0 @@
-use Rattle.std.proofs.Common.{◌≡◌, take}
-use Rattle.frame_laws.specs.Layout.{fields_size}
-use Rattle.call_classes.specs.Views.{fields_of}
-use Rattle.call_sizes.proofs.fields.size_of.Given as goal
-
-abbrev pub invariant-loop-field : goal.invariant-loop-field
-invariant-loop-field l = l.size ≡ fields_size (fields_of (take l.field-index l.fields))

@@ -1,8 +1,0 @@
-use Rattle.std.proofs.Common.{◌≡◌, take}
-use Rattle.call_frames.specs.PlainFrames.{weights_size}
-use Rattle.call_sizes.specs.Digits.{plane_views}
-use Rattle.call_tests.specs.Rows.{saturated}
-use Rattle.call_sizes.proofs.measuring.planes_size.Given as goal
-
-abbrev pub invariant-loop-plane : goal.invariant-loop-plane
-invariant-loop-plane l = l.size ≡ saturated (weights_size (plane_views (take l.plane-index l.planes)))

@@ -1,3 +1,0 @@
-pub mod CountSteps
-pub mod RowSteps
-pub mod WordSteps

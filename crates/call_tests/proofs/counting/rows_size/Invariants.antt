@@ -1,9 +1,0 @@
-use Rattle.std.proofs.Common.{◌≤◌, ◌-◌, length}
-use Rattle.call_tests.proofs.CountSteps.{Counts}
-use Rattle.call_tests.proofs.counting.rows_size.Given as goal
-
-abbrev pub invariant-loop-at : goal.invariant-loop-at
-invariant-loop-at l = (l.at ≤ length l.calls) × Counts l.size l.calls l.at × (l.size ≤ 18446744073709551615)
-
-abbrev pub decreases-loop-at : goal.decreases-loop-at
-decreases-loop-at l = length l.calls - l.at

@@ -1,9 +1,0 @@
-use Rattle.std.proofs.Common.{◌≤◌, ◌-◌, length}
-use Rattle.call_tests.proofs.RowSteps.{Owes}
-use Rattle.call_tests.proofs.testing.put_rows.Given as goal
-
-abbrev pub invariant-loop-at : goal.invariant-loop-at
-invariant-loop-at l = (l.at ≤ length l.calls) × Owes l.fn.out.items l.out.items l.index l.calls l.at
-
-abbrev pub decreases-loop-at : goal.decreases-loop-at
-decreases-loop-at l = length l.calls - l.at

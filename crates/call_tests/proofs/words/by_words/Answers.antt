@@ -1,6 +1,0 @@
-use Rattle.std.proofs.Common.{◌∙◌}
-use Rattle.call_tests.proofs.WordSteps.{few_words}
-use Rattle.call_tests.proofs.words.by_words.Goals as goal
-
-pub returns : goal.returns
-returns c = c.have_rows.ensures ∙ few_words c.args.calls.now c.words_behind-words.result c.words_behind-words.ensures c.if-words-gt1000.false

@@ -1,0 +1,5 @@
+pub mod BeginningLemmas
+pub mod CaseLemmas
+pub mod FloatFile
+pub mod PauseLemmas
+pub mod RoundTrips

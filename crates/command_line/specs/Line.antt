@@ -1,8 +1,0 @@
--- Parts of the command line, as they are made.
-use Rattle.std.specs.Prelude.{[]}
-use Rattle.clap.specs.Simple.{App}
-use Rattle.word_grammar.specs.Grammar.{line_shape}
-
--- the line without its commands
-abbrev pub bare_line : App
-bare_line = record { top = line_shape; subs = [] }

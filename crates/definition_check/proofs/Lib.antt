@@ -1,4 +1,0 @@
-pub mod BeginningLemmas
-pub mod CaseLemmas
-pub mod FloatFile
-pub mod PauseLemmas

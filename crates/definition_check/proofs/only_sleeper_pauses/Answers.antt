@@ -1,6 +1,0 @@
-use Rattle.std.proofs.Common.{refl}
-use Rattle.definition_check.proofs.PauseLemmas.{told_pauses, pauses_told}
-use Rattle.definition_check.proofs.only_sleeper_pauses.Goals as goal
-
-pub returns : goal.returns
-returns c = record { len = refl; each = λ x. (told_pauses x, pauses_told x) }

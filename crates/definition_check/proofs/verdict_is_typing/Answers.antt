@@ -1,5 +1,0 @@
-use Rattle.wasm_validate.proofs.BodyVerdicts.{passes_typed, fails_fault}
-use Rattle.definition_check.proofs.verdict_is_typing.Goals as goal
-
-pub returns : goal.returns
-returns c = λ d body. (passes_typed d body, fails_fault d body)

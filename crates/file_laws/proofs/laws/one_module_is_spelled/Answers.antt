@@ -1,5 +1,0 @@
-use Rattle.file_laws.proofs.OneModule.{one_spelled}
-use Rattle.file_laws.proofs.laws.one_module_is_spelled.Goals as goal
-
-pub returns : goal.returns
-returns c = one_spelled

@@ -1,5 +1,0 @@
-use Rattle.file_laws.proofs.FileWriting.{written_spells}
-use Rattle.file_laws.proofs.laws.written_is_spelled.Goals as goal
-
-pub returns : goal.returns
-returns c = written_spells

@@ -1,5 +1,0 @@
-mod Lean
-mod Matching
-mod Moves
-mod Standing
-mod Whole

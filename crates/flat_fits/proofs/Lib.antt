@@ -1,5 +1,0 @@
-pub mod Calls
-mod Heights
-mod Items
-mod Statements
-pub mod Whole

@@ -1,6 +1,0 @@
-use Rattle.std.proofs.Common.{◌≡◌, map, take}
-use Rattle.wa_model.specs.declared.flat.Operand.TheVariants.{Local}
-use Rattle.flat_instrs.proofs.leaves.operands.Given as goal
-
-abbrev pub invariant-loop-local : goal.invariant-loop-local
-invariant-loop-local l = l.operands.items ≡ map Local (take l.local-index l.fn.locals)

@@ -1,3 +1,0 @@
-pub mod LocalLemmas
-pub mod MarkLemmas
-pub mod NumberLemmas

@@ -1,4 +1,0 @@
-pub mod FitLemmas
-pub mod PutLemmas
-pub mod RaiseLemmas
-pub mod StmtLemmas

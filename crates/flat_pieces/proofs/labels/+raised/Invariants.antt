@@ -1,7 +1,0 @@
-use Rattle.std.proofs.Common.{◌≡◌, drop}
-use Rattle.wa_types.specs.View.{code, onto}
-use Rattle.guard_form.specs.Guarded.{raised}
-use Rattle.flat_pieces.proofs.labels.+raised.Given as goal
-
-abbrev pub invariant-raised-loop-instr : goal.invariant-raised-loop-instr
-invariant-raised-loop-instr l = onto l.out.items (raised l.inside l.by (code (drop l.instr-index l.body))) ≡ raised l.inside l.by (code l.body)

@@ -1,7 +1,0 @@
-use Rattle.std.proofs.Common.{take}
-use Rattle.wa_model.specs.Flat.{all_got}
-use Rattle.flat_pieces.specs.Putting.{Puts}
-use Rattle.flat_pieces.proofs.put.put_operands.Given as goal
-
-abbrev pub invariant-loop-operand : goal.invariant-loop-operand
-invariant-loop-operand l = Puts l.fn.out.items l.out.items (all_got (take l.operand-index l.operands))

@@ -1,7 +1,0 @@
-use Rattle.std.proofs.Common.{take}
-use Rattle.wa_model.specs.Flat.{slots_got}
-use Rattle.flat_pieces.specs.Putting.{Puts}
-use Rattle.flat_pieces.proofs.put.put_slots.Given as goal
-
-abbrev pub invariant-loop-slot : goal.invariant-loop-slot
-invariant-loop-slot l = Puts l.fn.out.items l.out.items (slots_got (take l.slot-index l.slots))

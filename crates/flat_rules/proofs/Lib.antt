@@ -1,5 +1,0 @@
-mod BehindCalls
-pub mod LiveFlat
-pub mod OwnLemmas
-pub mod PrunedFlat
-pub mod StackReads

@@ -1,3 +1,0 @@
-pub mod FindLemmas
-pub mod SurveyLemmas
-pub mod SurveyedLemmas

@@ -1,2 +1,0 @@
-pub use Rattle.flat_instrs.specs.Emitting
-pub mod Surveying

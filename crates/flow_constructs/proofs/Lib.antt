@@ -1,2 +1,0 @@
-pub mod ConstructSteps
-pub mod IfSteps

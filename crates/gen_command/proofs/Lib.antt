@@ -1,2 +1,0 @@
-pub mod GeneratedSizes
-pub mod Telling

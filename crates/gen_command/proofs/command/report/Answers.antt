@@ -1,5 +1,0 @@
-use Rattle.printing.proofs.Printed.{memory_alone}
-use Rattle.gen_command.proofs.command.report.Goals as goal
-
-pub returns-in_default-clause-memory : goal.returns-in_default-clause-memory
-returns-in_default-clause-memory g c = λ h. memory_alone _ _ _ c.out_of_memory.ensures.printed

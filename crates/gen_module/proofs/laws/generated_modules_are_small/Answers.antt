@@ -1,5 +1,0 @@
-use Rattle.gen_module.proofs.GeneratedModules.{is_small}
-use Rattle.gen_module.proofs.laws.generated_modules_are_small.Goals as goal
-
-pub returns : goal.returns
-returns c = is_small

@@ -1,3 +1,0 @@
-pub mod GeneratedLocals
-pub mod Rewritten
-pub mod Runs

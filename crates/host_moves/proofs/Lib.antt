@@ -1,3 +1,0 @@
-pub use Rattle.host_pauses.proofs.Comings
-pub mod Askings
-pub mod Supplied

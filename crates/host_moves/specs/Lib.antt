@@ -1,1 +1,0 @@
-pub use Rattle.host_answers.specs.Answering

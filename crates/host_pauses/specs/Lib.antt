@@ -1,1 +1,0 @@
-pub use Rattle.run_laws.specs.FittingStates

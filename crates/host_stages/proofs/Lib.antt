@@ -1,4 +1,0 @@
-pub mod Outcomes
-pub mod Pauses
-pub mod Tables
-pub mod Ways

@@ -1,9 +1,0 @@
-pub use Rattle.device_port.specs.Journals
-pub use Rattle.device_port.specs.Listed
-pub use Rattle.device_port.specs.declared.device.DeviceFail
-pub use Rattle.device_port.specs.declared.devices.Devices
-pub mod Laws
-pub mod Places
-pub mod Stories
-pub mod Stretch
-pub mod Supplies

@@ -1,8 +1,0 @@
-use Rattle.std.proofs.Common.{◌≡◌, length, map, take, Ok}
-use Rattle.wa_types.specs.Pausing.{entries_of}
-use Rattle.import_lists.specs.Entries.{entry_of}
-use Rattle.import_lists.proofs.ParseLemmas.{parts}
-use Rattle.import_lists.proofs.lists.ImportList.parse.Given as goal
-
-abbrev pub invariant-loop-piece : goal.invariant-loop-piece
-invariant-loop-piece l = entries_of (take (length l.yielded) (parts l.fn.text)) ≡ Ok (map entry_of l.entries.items)

@@ -1,4 +1,0 @@
-pub mod Entries
-pub mod Index
-pub mod Lists
-pub mod Settings

@@ -1,4 +1,0 @@
-pub mod JumpLemmas
-pub mod NumberLemmas
-pub mod ReduceLemmas
-pub mod RoomKept

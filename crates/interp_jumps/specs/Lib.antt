@@ -1,3 +1,0 @@
-pub mod StackRooms
-pub mod Stacks
-pub mod Told

@@ -1,0 +1,11 @@
+pub mod Arrivals
+pub mod FoundPauses
+pub mod JoinedLaw
+pub mod JoinedNotes
+pub mod JoinedOriginals
+pub mod JoinedRows
+pub mod JoinedStories
+pub mod Matches
+pub mod RecordStories
+pub mod ShownRuns
+pub mod SomeTold

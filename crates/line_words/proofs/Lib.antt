@@ -1,4 +1,0 @@
-mod Texts
-pub mod Numerals
-pub mod Pieces
-pub mod Sequences

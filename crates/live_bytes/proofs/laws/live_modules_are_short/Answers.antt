@@ -1,8 +1,0 @@
-use Rattle.live_bytes.proofs.LiveLength.{few_law, short_law}
-use Rattle.live_bytes.proofs.laws.live_modules_are_short.Goals as goal
-
-pub returns-clause-locals : goal.returns-clause-locals
-returns-clause-locals c = few_law
-
-pub returns-clause-bytes : goal.returns-clause-bytes
-returns-clause-bytes c = short_law

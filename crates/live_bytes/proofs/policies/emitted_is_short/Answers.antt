@@ -1,8 +1,0 @@
-use Rattle.live_bytes.proofs.BytesByPolicy.{few_as, short_as}
-use Rattle.live_bytes.proofs.policies.emitted_is_short.Goals as goal
-
-pub returns-clause-locals : goal.returns-clause-locals
-returns-clause-locals c = few_as
-
-pub returns-clause-bytes : goal.returns-clause-bytes
-returns-clause-bytes c = short_as

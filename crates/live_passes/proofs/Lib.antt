@@ -1,5 +1,0 @@
-pub mod StmtViews
-pub mod SetLemmas
-pub mod CodeLemmas
-pub mod StepLemmas
-pub mod PassLemmas

@@ -1,8 +1,0 @@
-use Rattle.live_passes.proofs.SetLemmas.{read_here, read_past}
-use Rattle.live_passes.proofs.sets.read.Goals as goal
-
-pub returns-then-local-set : goal.returns-then-local-set
-returns-then-local-set c = read_here c.args.set.now c.args.local c.if-local-set.true
-
-pub returns-else-local-set : goal.returns-else-local-set
-returns-else-local-set c = read_past c.args.set.now c.args.local c.if-local-set.false

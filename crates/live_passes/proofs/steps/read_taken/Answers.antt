@@ -1,6 +1,0 @@
-use Rattle.std.proofs.Common.{rules}
-use Rattle.live_passes.proofs.StepLemmas.{taken_read}
-use Rattle.live_passes.proofs.steps.read_taken.Goals as goal
-
-pub returns : goal.returns
-returns c = taken_read c.args.stack.now c.saturating_sub-left.result c.args.args c.args.set.now c.read_slots.new.set (search rules) c.read_slots.ensures

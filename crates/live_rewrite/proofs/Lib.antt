@@ -1,9 +1,0 @@
-pub use Rattle.func_rewrite.proofs.EmittedBy
-pub use Rattle.func_rewrite.proofs.ToldLemmas
-pub use Rattle.live_form.proofs.FitsBy
-pub use Rattle.live_form.proofs.PolicyCases
-pub use Rattle.live_form.proofs.PolicyReads
-pub mod CallFacts
-pub mod LayoutSteps
-pub mod PartsOwed
-pub mod SetFields

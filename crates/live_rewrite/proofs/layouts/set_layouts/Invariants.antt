@@ -1,7 +1,0 @@
-use Rattle.std.proofs.Common.{take}
-use Rattle.save_laws.specs.LiveAt.{lists_of}
-use Rattle.live_rewrite.specs.Layouts.{SetFrames}
-use Rattle.live_rewrite.proofs.layouts.set_layouts.Given as goal
-
-abbrev pub invariant-loop-index : goal.invariant-loop-index
-invariant-loop-index l = SetFrames l.locals 0 (lists_of (take l.index l.sets)) l.layouts.items

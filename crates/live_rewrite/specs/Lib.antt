@@ -1,9 +1,0 @@
-pub use Rattle.func_rewrite.specs.FlatFault
-pub use Rattle.func_rewrite.specs.Flattened
-pub use Rattle.func_rewrite.specs.Frames
-pub use Rattle.func_rewrite.specs.Sizes
-pub use Rattle.func_rewrite.specs.Whole
-pub use Rattle.live_form.specs.EmittedAs
-pub use Rattle.live_form.specs.PolicyLaws
-pub mod Calls
-pub mod Layouts

@@ -1,6 +1,0 @@
-pub use Rattle.flat_runs.proofs.Whole
-pub use Rattle.live_laws.proofs.LiveRelation
-pub use Rattle.live_laws.proofs.SpotSteps
-pub use Rattle.live_laws.proofs.StandingStates
-pub mod BackAgain
-pub mod StacksAgain

@@ -1,4 +1,0 @@
-pub mod WordLemmas
-pub mod HeadLemmas
-pub mod WordPasses
-pub mod LevelLemmas

@@ -1,5 +1,0 @@
-use Rattle.live_words.proofs.LevelLemmas.{Leaving}
-use Rattle.live_words.proofs.levels.leave.Given as goal
-
-abbrev pub invariant-loop-word : goal.invariant-loop-word
-invariant-loop-word l = Leaving l.fn.set l.own l.set l.word-index

@@ -1,7 +1,0 @@
-use Rattle.std.proofs.Common.{rules}
-use Rattle.live_passes.proofs.StepLemmas.{taken_read}
-use Rattle.live_words.specs.Words.{world}
-use Rattle.live_words.proofs.steps.read_taken.Goals as goal
-
-pub returns : goal.returns
-returns c = λ i il. taken_read c.args.stack.now c.saturating_sub-left.result c.args.args (world i c.args.set.now) (world i c.read_slots.new.set) (search rules) (c.read_slots.ensures i il)

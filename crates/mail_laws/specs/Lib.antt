@@ -1,0 +1,15 @@
+pub mod AloneLines
+pub mod Astray
+pub mod Determined
+pub mod Kept
+pub mod MailOriginals
+pub mod MailWorld
+pub mod Mailboxes
+pub mod Played
+pub mod Replays
+pub mod SendingRun
+pub mod Stalling
+pub mod Told
+pub mod Unread
+pub mod WaitingRun
+pub mod WithoutBoxes

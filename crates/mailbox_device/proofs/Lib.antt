@@ -1,0 +1,4 @@
+pub mod Changes
+pub mod Named
+pub mod NotedPlaces
+pub mod Orderly

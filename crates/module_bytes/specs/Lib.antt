@@ -1,9 +1,0 @@
-pub use Rattle.live_bytes.specs.EmittedAs
-pub use Rattle.live_bytes.specs.PolicyLaws
-pub use Rattle.live_bytes.specs.Sizes
-pub use Rattle.module_rewrite.specs.FlattenWhole
-pub use Rattle.module_rewrite.specs.Whole as ModuleWhole
-pub use Rattle.module_rewrite.specs.declared.fault.RewriteFault
-pub mod Emitting
-pub mod Faults
-pub mod Whole

@@ -1,5 +1,0 @@
-use Rattle.std.proofs.Common.{◌≡◌, take, map}
-use Rattle.module_copy.proofs.parts.copy_each.Given as goal
-
-abbrev pub invariant-loop-part : goal.invariant-loop-part
-invariant-loop-part g l = map g.P.Part.view l.out.items ≡ map g.P.Part.view (take l.part-index l.parts)

@@ -1,5 +1,0 @@
-use Rattle.norm_laws.proofs.Norms.{norm_rewritten}
-use Rattle.norm_laws.proofs.laws.norm_is_rewritten.Goals as goal
-
-pub returns : goal.returns
-returns c = norm_rewritten

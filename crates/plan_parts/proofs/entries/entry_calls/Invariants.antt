@@ -1,8 +1,0 @@
-use Rattle.std.proofs.Common.{◌≡◌, ◌++◌, map, drop}
-use Rattle.host_setup.specs.Views.{entry_of as named_of}
-use Rattle.host_stages.specs.Views.{entry_of}
-use Rattle.plan_parts.specs.Settings.{calls_of}
-use Rattle.plan_parts.proofs.entries.entry_calls.Given as goal
-
-abbrev pub invariant-loop-func : goal.invariant-loop-func
-invariant-loop-func l = calls_of (map named_of l.fn.entries.items) l.funcs ≡ map entry_of l.calls.items ++ calls_of (map named_of l.rest.items) (drop l.func-index l.funcs)

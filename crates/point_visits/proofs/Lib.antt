@@ -1,3 +1,0 @@
-pub mod PointLemmas
-pub mod VisitLemmas
-mod SlotLemmas

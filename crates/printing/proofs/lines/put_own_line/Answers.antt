@@ -1,8 +1,0 @@
-use Rattle.printing.proofs.LineTexts.{line_some, nothing_printed}
-use Rattle.printing.proofs.lines.put_own_line.Goals as goal
-
-pub returns-then-not-fits-clause-less : goal.returns-then-not-fits-clause-less
-returns-then-not-fits-clause-less g c = nothing_printed _ _ (line_some _ _)
-
-pub returns-in_default-clause-less : goal.returns-in_default-clause-less
-returns-in_default-clause-less g c = nothing_printed _ _ (line_some _ _)

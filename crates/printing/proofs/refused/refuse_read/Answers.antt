@@ -1,5 +1,0 @@
-use Rattle.printing.proofs.Printed.{memory_alone}
-use Rattle.printing.proofs.refused.refuse_read.Goals as goal
-
-pub returns-in-Err-clause-memory : goal.returns-in-Err-clause-memory
-returns-in-Err-clause-memory g c = λ h. memory_alone _ _ _ c.out_of_memory.ensures.printed

@@ -1,5 +1,0 @@
-use Rattle.range_laws.proofs.Operators.{operate_in}
-use Rattle.range_laws.proofs.laws.operators_in_range.Goals as goal
-
-pub returns : goal.returns
-returns c = operate_in

@@ -1,3 +1,0 @@
-pub mod Completeness
-pub mod PlayedFaults
-pub mod RunOriginals

@@ -1,0 +1,15 @@
+pub mod Alone
+pub mod DeterminedRuns
+pub mod Fitting
+pub mod Flat
+pub mod FlatFits
+pub mod FlatTyped
+pub mod FlatView
+pub mod Growth
+pub mod Heights
+pub mod Keeping
+pub mod LawfulStacks
+pub mod Pruning
+pub mod Quiet
+pub mod Shown
+pub mod Touches

@@ -1,0 +1,27 @@
+-- The end of what went on, or of why it stopped.
+use Rattle.script_command.specs.SnapshotCalls.{continues}
+use Rattle.script_command.proofs.SnapshotAnswering.{one_end}
+use Rattle.script_command.proofs.SnapshotEnding.{done_end, told_counts, told_end}
+use Rattle.script_command.proofs.SnapshotStatuses.{snapshot_status}
+use Rattle.script_command.proofs.continuing.continue_script.Goals as goal
+
+pub returns-in-Ok-clause-one_end : goal.returns-in-Ok-clause-one_end
+returns-in-Ok-clause-one_end g c = one_end continues _ _ 0 (done_end continues _ _ _ _ _ c.in-Ok.ensures.does)
+
+pub returns-in-Ok-clause-status : goal.returns-in-Ok-clause-status
+returns-in-Ok-clause-status g c = snapshot_status continues _ _ 0 (done_end continues _ _ _ _ _ c.in-Ok.ensures.does)
+
+pub returns-in-Err-clause-one_end : goal.returns-in-Err-clause-one_end
+returns-in-Err-clause-one_end g c =
+    one_end continues _ _ c.tell_stop.result
+    (told_end continues _ _ _ _ _ _ _ c.tell_stop.result c.in-Err.stop c.in-Err.ensures.does c.tell_stop.ensures.told)
+
+pub returns-in-Err-clause-status : goal.returns-in-Err-clause-status
+returns-in-Err-clause-status g c =
+    snapshot_status continues _ _ c.tell_stop.result
+    (told_end continues _ _ _ _ _ _ _ c.tell_stop.result c.in-Err.stop c.in-Err.ensures.does c.tell_stop.ensures.told)
+
+pub returns-in-Err-clause-counts : goal.returns-in-Err-clause-counts
+returns-in-Err-clause-counts g c =
+    told_counts c.tell_stop.result _ _ _ _ _ _ _ continues _ _ _ _ c.in-Err.stop c.in-Err.ensures.does c.tell_stop.ensures.told c.in-Err.ensures.counts
+    c.tell_stop.ensures.once

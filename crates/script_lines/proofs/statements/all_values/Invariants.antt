@@ -1,7 +1,0 @@
-use Rattle.std.proofs.Common.{◌≡◌, drop}
-use Rattle.wa_model.specs.ScriptLines.{all_values}
-use Rattle.line_words.proofs.Sequences.{appended}
-use Rattle.script_lines.proofs.statements.all_values.Given as goal
-
-abbrev pub invariant-loop-word : goal.invariant-loop-word
-invariant-loop-word l = appended l.values.items (all_values (drop l.word-index l.words)) ≡ all_values l.fn.words

@@ -1,9 +1,0 @@
--- What reading a part of a line answers, and the words of pokes.
-use Rattle.std.specs.Prelude.{List, ℕ, [], ◌∷◌}
-use Rattle.wa_model.specs.ScriptLines.{PokeWords}
-pub use Rattle.line_words.specs.Reading.{Blames, Reads, begins_plainly, behind_words, or_breaks, told_words}
-
--- words by threes, the first of each aside: the places and bytes of pokes
-abbrev pub triples : List (List ℕ) → List PokeWords
-triples (word ∷ at ∷ bytes ∷ rest) = record { at = at; bytes = bytes } ∷ triples rest
-triples _ = []

@@ -1,5 +1,0 @@
-use Rattle.slim_form.proofs.EmittedCode.{same_slim}
-use Rattle.slim_form.proofs.emit_laws.code_is_slim_beside_itself.Goals as goal
-
-pub returns : goal.returns
-returns c = same_slim

@@ -1,5 +1,0 @@
-use Rattle.slim_form.proofs.EmittedCode.{emits_slim}
-use Rattle.slim_form.proofs.emit_laws.emitted_is_slim.Goals as goal
-
-pub returns : goal.returns
-returns c = emits_slim

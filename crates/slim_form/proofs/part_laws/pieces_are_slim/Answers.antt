@@ -1,8 +1,0 @@
-use Rattle.slim_form.proofs.SlimPieces as P
-use Rattle.slim_form.proofs.part_laws.pieces_are_slim.Goals as goal
-
-pub returns-clause-code : goal.returns-clause-code
-returns-clause-code c = P.pieces_are_slim
-
-pub returns-clause-body : goal.returns-clause-body
-returns-clause-body c = P.bodies_are_slim

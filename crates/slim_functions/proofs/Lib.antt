@@ -1,3 +1,0 @@
-mod FixedLemmas
-mod GuardLemmas
-mod ToldLemmas

@@ -1,0 +1,17 @@
+pub mod Cases
+pub mod EmittedCode
+pub mod KeptSizes
+pub mod KeptTypes
+pub mod Locals
+pub mod ResultCounts
+pub mod Running
+pub mod Shapes
+pub mod SlimModules
+pub mod SlimPieces
+pub mod StepTable
+pub mod Stretches
+pub mod UnitSizes
+pub mod UnitsAlike
+pub mod UnitsPassed
+pub mod UnitsSlim
+pub mod UnitsTyped

@@ -1,0 +1,10 @@
+pub mod Beside
+pub mod Emit
+pub mod Parts
+pub mod Sizes
+pub mod Slim
+pub mod SlimModule
+pub mod SlimModuleLaws
+pub mod SlimUnitLaws
+pub mod SlimUnits
+pub mod Typed

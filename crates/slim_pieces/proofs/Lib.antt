@@ -1,3 +1,0 @@
-pub use Rattle.slim_steps.proofs.InsideLemmas
-pub mod FunctionLemmas
-pub mod WalkLemmas

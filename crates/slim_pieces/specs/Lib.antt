@@ -1,3 +1,0 @@
-pub use Rattle.slim_steps.specs.Coming
-pub use Rattle.slim_steps.specs.Inside
-pub mod Functions

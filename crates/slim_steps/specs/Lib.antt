@@ -1,4 +1,0 @@
-pub mod Coming
-pub mod Inside
-pub mod SequenceView
-pub mod Steps

@@ -1,9 +1,0 @@
-pub use Rattle.guard_form.proofs.FrontTypes
-pub use Rattle.guard_form.proofs.Grouped
-pub use Rattle.guard_form.proofs.PieceTypes
-pub use Rattle.guard_form.proofs.Sizes
-pub mod UnitSizes
-pub mod UnitsAlike
-pub mod UnitsPassed
-pub mod UnitsSlim
-pub mod UnitsTyped

@@ -1,8 +1,0 @@
-use Rattle.slim_units.proofs.UnitsSlim.{body_law, units_law}
-use Rattle.slim_units.proofs.laws.units_are_slim.Goals as goal
-
-pub returns-clause-code : goal.returns-clause-code
-returns-clause-code c = units_law
-
-pub returns-clause-body : goal.returns-clause-body
-returns-clause-body c = body_law

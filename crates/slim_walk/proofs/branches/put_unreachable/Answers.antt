@@ -1,6 +1,0 @@
-use Rattle.flat_pieces.proofs.PutLemmas.{put_one, unreachable_is}
-use Rattle.slim_walk.proofs.BranchLemmas.{halt_ended}
-use Rattle.slim_walk.proofs.branches.put_unreachable.Goals as goal
-
-pub returns : goal.returns
-returns c = halt_ended c.args.at.now c.push.new.self c.requires (put_one _ _ _ _ c.in_ok-push.ensures.items unreachable_is)

@@ -1,9 +1,0 @@
-use Rattle.std.proofs.lemmas.Result.{IfOk-weaker}
-use Rattle.flat_pieces.proofs.PutLemmas.{put_one, get_is}
-use Rattle.slim_walk.proofs.MoveLemmas.{local_stepped}
-use Rattle.slim_walk.proofs.moves.move_local.Goals as goal
-
-pub returns : goal.returns
-returns c = IfOk-weaker c.put_set.result _ _
-    (λ put given e. local_stepped c.args.at.now c.put_set.new.at c.push.new.self c.args.to c.args.from c.requires.good c.requires.own
-    (put_one _ _ _ _ c.in_ok-push.ensures.items (get_is c.args.from)) (given e)) c.put_set.ensures

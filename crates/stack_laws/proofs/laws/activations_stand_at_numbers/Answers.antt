@@ -1,8 +1,0 @@
-use Rattle.stack_laws.proofs.StandingPauses.{calls_at_numbers, pauses_at_numbers}
-use Rattle.stack_laws.proofs.laws.activations_stand_at_numbers.Goals as goal
-
-pub returns-clause-calls : goal.returns-clause-calls
-returns-clause-calls c = calls_at_numbers
-
-pub returns-clause-pauses : goal.returns-clause-pauses
-returns-clause-pauses c = pauses_at_numbers

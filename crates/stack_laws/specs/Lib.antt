@@ -1,3 +1,0 @@
-pub mod Lawful
-pub mod Sites
-pub mod Standing

@@ -1,0 +1,12 @@
+pub mod EmittedStrands
+pub mod Example
+pub mod OneStrand
+pub mod StrandNotes
+pub mod StrandOriginals
+pub mod StrandWorld
+pub mod Strands
+pub mod StrandsMet
+pub mod ToldStrands
+pub mod Weaving
+pub mod WorldExample
+pub mod Woven

@@ -1,3 +1,0 @@
-pub use Rattle.told_worlds.specs.Turns
-pub mod Laws
-pub mod Notes

@@ -1,3 +1,0 @@
-pub use Rattle.world_laws.specs.Originals
-pub mod Laws
-pub mod Turns

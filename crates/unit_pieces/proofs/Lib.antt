@@ -1,4 +1,0 @@
-mod ExitLemmas
-mod PieceLemmas
-pub mod UnitLemmas
-mod UnitSteps

@@ -1,9 +1,0 @@
-pub use Rattle.validate_bodies.proofs.ContextLemmas
-pub use Rattle.validate_bodies.proofs.Decided
-pub use Rattle.validate_bodies.proofs.InstrKinds
-pub use Rattle.validate_bodies.proofs.LabelLemmas
-pub use Rattle.validate_bodies.proofs.BodyVerdicts
-pub use Rattle.validate_bodies.proofs.SpaceLemmas
-pub use Rattle.validate_rules.proofs.NameLemmas
-pub use Rattle.validate_rules.proofs.OrderedNames
-pub mod FuncLemmas

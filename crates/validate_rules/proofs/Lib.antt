@@ -1,4 +1,0 @@
-pub mod ExpressionLemmas
-pub mod NameLemmas
-pub mod OrderedNames
-pub mod OutsideLemmas

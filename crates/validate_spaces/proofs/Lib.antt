@@ -1,2 +1,0 @@
-pub mod ContextLemmas
-pub mod SpaceLemmas

@@ -1,7 +1,0 @@
-use Rattle.std.proofs.Common.{◌≡◌, take, map}
-use Rattle.wa_types.specs.declared.syntax.Func.{Func}
-use Rattle.validate_spaces.specs.Spaces.{ends_of}
-use Rattle.validate_spaces.proofs.spaces.all_ends.Given as goal
-
-abbrev pub invariant-loop-func : goal.invariant-loop-func
-invariant-loop-func l = map (λ w. w.items) l.all.items ≡ map (λ (f : Func). ends_of f.locals.items) (take l.func-index l.funcs)

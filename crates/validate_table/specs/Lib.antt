@@ -1,2 +1,0 @@
-pub use Rattle.validate_spaces.specs.Spaces
-pub mod Table

@@ -1,7 +1,0 @@
-use Rattle.std.proofs.Common.{[]}
-use Rattle.wa_model.proofs.NamedModules.{valid_named}
-use Rattle.wa_model.proofs.GrownSteps.{entered_named}
-use Rattle.wa_model.proofs.growth_laws.calls_are_named.Goals as goal
-
-pub returns : goal.returns
-returns c = λ m s args x f v h e. entered_named m [] [] [] [] (valid_named m v) s [] args x f h tt e

@@ -1,5 +1,0 @@
-use Rattle.wa_model.proofs.Ends.{ends_once}
-use Rattle.wa_model.proofs.laws.reductions_end_one_way.Goals as goal
-
-pub returns : goal.returns
-returns c = λ m from left used used' end end' a b. ends_once m from left used used' end end' a b

@@ -1,5 +1,0 @@
-use Rattle.wa_model.proofs.RuntimeValid.{runtime_valid}
-use Rattle.wa_model.proofs.quiet_laws.runtime_is_valid.Goals as goal
-
-pub returns : goal.returns
-returns c = λ m v free. runtime_valid m v free

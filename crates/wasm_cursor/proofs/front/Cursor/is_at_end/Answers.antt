@@ -1,5 +1,0 @@
-use Rattle.wasm_cursor.proofs.Cursors.{at_end, not_at_end}
-use Rattle.wasm_cursor.proofs.front.Cursor.is_at_end.Goals as goal
-
-pub returns : goal.returns
-returns c = (at_end _ _ _ _ c.self.view_is, not_at_end _ _ _ _ c.self.view_is c.self.invariant)

@@ -1,5 +1,0 @@
-use Rattle.wasm_cursor.proofs.Cursors.{first_place}
-use Rattle.wasm_cursor.proofs.front.Cursor.new_at.Goals as goal
-
-pub returns : goal.returns
-returns c = first_place c.args.first c.args.bytes.now

@@ -1,0 +1,10 @@
+use Rattle.std.proofs.Common.{◌≡◌, ◌<◌, ◌^◌, ◌++◌, length, map, drop}
+use Rattle.wa_types.specs.View.{custom_of}
+use Rattle.wa_types.specs.Encoding.{customs_behind}
+use Rattle.wasm_encode.proofs.sections.put_customs.Given as goal
+
+abbrev pub invariant-loop-custom : goal.invariant-loop-custom
+invariant-loop-custom l = record {
+  put : l.out.items ++ customs_behind l.id (map custom_of (drop l.custom-index l.customs)) ≡ l.fn.out.items ++ customs_behind l.id (map custom_of l.customs);
+  left : length (customs_behind l.id (map custom_of (drop l.custom-index l.customs))) < 2 ^ 64;
+}

@@ -1,2 +1,0 @@
-pub mod GoalStacks
-pub mod ItemFronts

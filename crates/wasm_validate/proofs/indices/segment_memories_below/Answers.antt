@@ -1,0 +1,13 @@
+use Rattle.std.proofs.Common.{rules, tests, sym, ◌∙◌, nat_lt}
+use Rattle.std.proofs.lemmas.Iterator.{YieldsList-from_slice}
+use Rattle.std.proofs.lemmas.Iterator.Search.{all_from_yields_List}
+use Rattle.wa_types.specs.declared.syntax.Segment.{Segment as SegmentValue}
+use Rattle.wa_types.specs.Syntax.{Segment}
+use Rattle.wa_types.specs.View.{segment_of}
+use Rattle.wasm_validate.proofs.OutsideLemmas.{all_map_map}
+use Rattle.wasm_validate.proofs.indices.segment_memories_below.Goals as goal
+
+pub returns : goal.returns
+returns c =
+    all_from_yields_List (λ (x : SegmentValue). nat_lt x.memory c.args.limit) _ _ _ c.all.ensures.ran (YieldsList-from_slice c.args.segments.now cc) (λ x b q k. search (rules, tests))
+    ∙ sym (all_map_map (λ n. nat_lt n c.args.limit) (λ (x : Segment). x.memory) segment_of c.args.segments.now)

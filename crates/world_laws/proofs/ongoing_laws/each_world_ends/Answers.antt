@@ -1,0 +1,5 @@
+use Rattle.world_laws.proofs.GoingOn.{each_world_ends}
+use Rattle.world_laws.proofs.ongoing_laws.each_world_ends.Goals as goal
+
+pub returns : goal.returns
+returns c = each_world_ends

@@ -1,6 +1,0 @@
-pub mod Faults
-pub mod Heads
-pub mod Journals
-pub mod KeptDevices
-pub mod Locksteps
-pub mod Replays

@@ -1,5 +1,0 @@
-use Rattle.world_replays.proofs.Replays.{journals_fix_lines}
-use Rattle.world_replays.proofs.replay_laws.journals_fix_lines.Goals as goal
-
-pub returns : goal.returns
-returns c = journals_fix_lines

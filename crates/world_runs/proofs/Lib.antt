@@ -1,9 +1,0 @@
-pub mod Astray
-pub mod Bounded
-pub mod GoingOn
-pub mod LineCalls
-pub mod Openings
-pub mod Replaying
-pub mod Scheduling
-pub mod StoryParts
-pub mod Turns

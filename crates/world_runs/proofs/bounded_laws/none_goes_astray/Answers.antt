@@ -1,5 +1,0 @@
-use Rattle.world_runs.proofs.Astray.{none_astray}
-use Rattle.world_runs.proofs.bounded_laws.none_goes_astray.Goals as goal
-
-pub returns : goal.returns
-returns c = none_astray

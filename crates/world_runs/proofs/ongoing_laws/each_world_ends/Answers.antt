@@ -1,5 +1,0 @@
-use Rattle.world_runs.proofs.GoingOn.{each_world_ends}
-use Rattle.world_runs.proofs.ongoing_laws.each_world_ends.Goals as goal
-
-pub returns : goal.returns
-returns c = each_world_ends

@@ -1,5 +1,0 @@
-use Rattle.world_runs.proofs.GoingOn.{worlds_go_on}
-use Rattle.world_runs.proofs.ongoing_laws.worlds_go_on.Goals as goal
-
-pub returns : goal.returns
-returns c = worlds_go_on

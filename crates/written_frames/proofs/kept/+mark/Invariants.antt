@@ -1,7 +1,0 @@
-use Rattle.std.proofs.Common.{drop}
-use Rattle.wa_model.specs.FlatView.{stmts}
-use Rattle.written_frames.proofs.MarkLemmas.{Going}
-use Rattle.written_frames.proofs.kept.+mark.Given as goal
-
-abbrev pub invariant-mark_body-loop-stmt : goal.invariant-mark_body-loop-stmt
-invariant-mark_body-loop-stmt l = Going l.numbers l.place (stmts l.body) l.fn.kept l.next l.kept (stmts (drop l.stmt-index l.body))
