@@ -13,7 +13,6 @@ asserted_guards t st f = record {
   exits = f.exits;
   restoring = f.restoring;
   saving = f.saving;
-  result = f.result;
   first = asserted t st f.first;
   body = asserted_units t st f.body;
 }

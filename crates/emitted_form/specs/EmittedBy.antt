@@ -4,11 +4,14 @@ use Rattle.wa_types.specs.declared.values.ValType.TheVariants.{I32, I64}
 use Rattle.wa_types.specs.Modules.{func_imports}
 use Rattle.wa_types.specs.Pausing.{Settings, is_told}
 use Rattle.wa_types.specs.Runtime.{global_space, with_runtime}
-use Rattle.wa_types.specs.Syntax.{Code, Func, Module}
+use Rattle.wa_types.specs.Syntax.{Code, done, Func, Module}
+use Rattle.run_theory.specs.Flat.{followed_by}
 use Rattle.run_theory.specs.FlatFits.{one_run}
 use Rattle.flat_laws.specs.Flatten.{flattened}
 use Rattle.flat_laws.specs.FlatModule.{extra_types}
 use Rattle.guard_form.specs.Functions.{GuardedFunc, with_guards, written_code}
+use Rattle.guard_form.specs.Guarded.{block_unit}
+use Rattle.frame_laws.specs.Function.{result_type, value_code}
 use Rattle.slim_laws.specs.SlimModule.{Pieces}
 
 -- What a function is written from: its pieces, and the codes that restore and that save its frame.
@@ -25,10 +28,9 @@ module _ (m : Module) (s : Settings) (which : List Bool) (codes : (index : ℕ) 
     size = length (flattened m x f).locals;
     exits = (codes x f).pieces.exits;
     restoring = (codes x f).restoring;
-    saving = (codes x f).saving;
-    result = (flattened m x f).result;
-    first = (codes x f).pieces.first;
-    body = (codes x f).pieces.units;
+    saving = followed_by (codes x f).saving (value_code (result_type (flattened m x f).locals (flattened m x f).result));
+    first = done;
+    body = block_unit (codes x f).pieces.first (codes x f).pieces.units (flattened m x f).result;
   }
 
   -- As it is written, where the global of the state stands behind the module's own. Behind its locals stand the slots, the

@@ -1,8 +1,8 @@
 -- The body of a written function.
 use Rattle.std.specs.Prelude.{◌≡◌, ℕ, List, Option, Some, None}
-use Rattle.wa_types.specs.Syntax.{local_get, Code, Func, Module, plain}
-use Rattle.run_theory.specs.Flat.{result_got}
-use Rattle.guard_form.specs.Guarded.{function_body}
+use Rattle.wa_types.specs.Syntax.{a_block, local_get, nest, Code, Func, Module, plain}
+use Rattle.run_theory.specs.Flat.{followed_by}
+use Rattle.frame_laws.specs.Function.{result_type, value_code}
 use Rattle.flat_laws.specs.Flatten.{flattened}
 use Rattle.slim_rewrite.specs.Told.{GuardedSlim}
 
@@ -11,8 +11,9 @@ abbrev pub body_got : Option ℕ → Code → Code
 body_got None next = next
 body_got (Some x) next = plain (local_get x) next
 
--- Guarded code of slim pieces of a function, between the codes that restore and save its frame where the state isn't 0.
+-- Guarded code of slim pieces of a function with the code that restores its frame, in a block, and behind it the code that saves its frame and
+-- gives a value for the result.
 pub record IsSlimBody (m : Module) (places : List ℕ) (state x : ℕ) (f : Func) (restored saved body : Code) : Type 0 where
   pub guarded : Code
-  pub slim : GuardedSlim m places state x f guarded
-  pub is : body ≡ function_body state restored saved (result_got (flattened m x f).result) guarded
+  pub slim : GuardedSlim m places state x f restored guarded
+  pub is : body ≡ nest a_block None guarded (followed_by saved (value_code (result_type (flattened m x f).locals (flattened m x f).result)))

@@ -10,7 +10,9 @@ use Rattle.wa_types.specs.Runtime.{global_space, with_runtime}
 use Rattle.wa_types.specs.Syntax.{Code, done, Func, Module}
 use Rattle.wa_types.specs.declared.values.ValType.{ValType}
 use Rattle.wa_types.specs.declared.values.ValType.TheVariants.{I32, I64}
-use Rattle.run_theory.specs.Flat.{FlatFunc}
+use Rattle.run_theory.specs.Flat.{FlatFunc, followed_by}
+use Rattle.frame_laws.specs.Function.{result_type, value_code}
+use Rattle.guard_form.specs.Guarded.{block_unit}
 use Rattle.flat_laws.specs.FlatModule.{flat_func}
 use Rattle.flat_laws.specs.Flatten.{flattened, names, slots}
 use Rattle.slim_laws.specs.SlimModule.{AllSlimPieces, Pieces, module_terms, slim_module}
@@ -42,10 +44,9 @@ module _ (m : Module) (s : Settings) (which : List Bool) (frames : (index : ℕ)
     size = length (flat_of x f).locals;
     exits = (frames x).pieces.exits;
     restoring = (frames x).restoring;
-    saving = (frames x).saving;
-    result = (flat_of x f).result;
-    first = (frames x).pieces.first;
-    body = (frames x).pieces.units;
+    saving = followed_by (frames x).saving (value_code (result_type (flat_of x f).locals (flat_of x f).result));
+    first = done;
+    body = block_unit (frames x).pieces.first (frames x).pieces.units (flat_of x f).result;
   }
 
   -- the pieces of each function
@@ -108,8 +109,8 @@ fields_of keep [] = []
 fields_of keep (p ∷ ps) = (if keep p.local then kept p.local p.ty else gap p.ty) ∷ fields_of keep ps
 
 -- one layout for all calls
-abbrev pub one_framing : Pieces → Layout → Framing
-one_framing pieces l = record { pieces = pieces; restoring = restore_code l done; saving = save_code l done; frame_at = λ place. one_frame l }
+abbrev pub one_framing : Pieces → Layout → (result : Option ValType) → Framing
+one_framing pieces l result = record { pieces = pieces; restoring = restore_code l done; saving = save_code l done; frame_at = λ place. one_frame l result }
 
 -- Frames for the policy that saves all, where each function keeps these of its saved locals.
 module _ (m : Module) (s : Settings) (which : List Bool) (keep : (func local : ℕ) → Bool) where
@@ -126,6 +127,10 @@ module _ (m : Module) (s : Settings) (which : List Bool) (keep : (func local : �
   lay_at x None = record { address = 0; index = 0; scratch = 0; fields = [] }
   lay_at x (Some f) = layout_of x f
 
+  abbrev pub result_at : ℕ → Option Func → Option ValType
+  result_at x None = None
+  result_at x (Some f) = result_type (flattened (Base m) x f).locals (flattened (Base m) x f).result
+
   -- They keep each parameter and declared local, and each slot of an operand that stands at a numbered call.
   pub record KeepsEnough (x : ℕ) (f : Func) : Type 0 where
     pub own : (y : ℕ) → y < length (locals_of m f) → keep x y ≡ true
@@ -137,4 +142,4 @@ module _ (m : Module) (s : Settings) (which : List Bool) (keep : (func local : �
 
 -- with these pieces
 abbrev pub kept_frames : (m : Module) (s : Settings) (which : List Bool) (pieces : (index : ℕ) → Pieces) (keep : (func local : ℕ) → Bool) → (index : ℕ) → Framing
-kept_frames m s which pieces keep x = one_framing (pieces x) (lay_at m s which keep x (defined_at m x))
+kept_frames m s which pieces keep x = one_framing (pieces x) (lay_at m s which keep x (defined_at m x)) (result_at m s which keep x (defined_at m x))
