@@ -13,7 +13,7 @@ use Rattle.wa_model.specs.Protocol.{exports_of}
 use Rattle.wa_model.specs.Step.{entered, param_count}
 use Rattle.guard_form.specs.Functions.{RoleCalls, indices_of}
 use Rattle.guard_form.specs.Pieces.{flat_units, no_unit, first_piece}
-use Rattle.guard_form.specs.Places.{at_start, call_labels, flat_labels, noted_code}
+use Rattle.guard_form.specs.Places.{at_start, in_block, call_labels, flat_labels, noted_code}
 use Rattle.guard_runs.specs.Alike.{Alike, Paired, sides_of}
 use Rattle.guard_runs.specs.Beside.{Near, directly}
 use Rattle.guard_runs.specs.Modules.{SameFunction, DifferInFunctions}
@@ -22,9 +22,11 @@ use Rattle.frame_laws.specs.Stack.{AllFit, CallsTo, directly as to_import}
 use Rattle.guard_runs.specs.Joined.{one_frame}
 use Rattle.guard_runs.specs.Levels.{MayStand}
 use Rattle.guard_form.specs.Guarded.{guarded_body}
+use Rattle.frame_laws.specs.Layout.{restore_code}
+use Rattle.wa_types.specs.declared.values.ValType.TheVariants.{I32}
 use Rattle.frame_laws.proofs.OneFunction.{layout_codes}
 use Rattle.guard_runs.specs.Pause.{AreaReady, EntersEntry, PausesAt, RuntimeAt}
-use Rattle.guard_runs.specs.SmallModule.{ComesBack, after_call, answer, entry, flat_function, guarded, is_sleep, layout, left, level, numbered_places, plan, role, setting, store, written_function}
+use Rattle.guard_runs.specs.SmallModule.{ComesBack, after_call, answer, around_call, entry, flat_function, guarded, is_sleep, layout, left, level, numbered_places, plan, role, setting, store, written_function}
 use Rattle.guard_runs.proofs.WaitingLevels.{stopped_are_levels}
 use Rattle.guard_runs.proofs.EachStretch.{calls_begin}
 use Rattle.guard_runs.proofs.PairedModules.{paired_law}
@@ -44,7 +46,7 @@ at_func (suc j) g g' lt e e' = absurd (omega (arith, lt))
 calls_of_role : (x : ℕ) → RoleCalls (λ c. is_sleep c ≡ false) (role x)
 unfolding followed_by pruned
 calls_of_role zero = tt
-calls_of_role (suc zero) = ((tt, (tt, tt)), ((tt, (tt, (tt, (tt, tt)))), tt))
+calls_of_role (suc zero) = (tt, (((tt, tt), ((tt, tt), tt)), (((tt, tt), ((tt, tt), ((tt, tt), ((tt, tt), tt)))), tt), ((tt, tt), tt), tt))
 calls_of_role (suc (suc x)) = tt
 
 differ : DifferInFunctions setting
@@ -108,23 +110,23 @@ abbrev own : List Value
 own = V.I32 5 ∷ V.I32 0 ∷ []
 
 abbrev flat_stack : List Activation
-flat_stack = waiting 1 own [] [] (set_to (Some 1) (followed_by behind (flat_units no_unit))) (flat_labels guarded []) ∷ []
+flat_stack = waiting 1 own [] [] (set_to (Some 1) (followed_by behind (flat_units no_unit))) (flat_labels guarded around_call) ∷ []
 
 abbrev written_stack : List Activation
-written_stack = waiting 1 (own ++ extra) [] [] (noted_code 0 guarded [] 0 (Some 1) behind no_unit) (call_labels 0 guarded 0 [] 0 no_unit) ∷ []
+written_stack = waiting 1 (own ++ extra) [] [] (noted_code 0 guarded around_call 0 (Some 1) behind no_unit) (call_labels 0 guarded 0 around_call 0 no_unit) ∷ []
 
 abbrev stopped : Stopped setting 0 flat_stack written_stack
-stopped = above 1 (omega arith) refl own extra [] [] (record { size = refl; more = refl; held = λ e. refl }) 0 at_start (directly no_params) (omega arith) (host refl)
+stopped = above 1 (omega arith) refl own extra [] [] (record { size = refl; more = refl; held = λ e. refl }) 0 (in_block 0 at_start) (directly no_params) (omega arith) (host refl)
 
-stands : MayStand setting (λ a. one_frame layout) stopped
-unfolding with_runtime
+stands : MayStand setting (λ a. one_frame layout (Some I32)) stopped
+unfolding with_runtime followed_by
 stands = (
   (written_function, refl),
-  record { index = refl; codes = layout_codes layout (guarded_body (indices_of 0 guarded) guarded.exits guarded.first guarded.body) (Some 1) 0 (λ e. cc) },
+  record { index = refl; codes = layout_codes layout (guarded_body (indices_of 0 guarded) (restore_code layout) guarded.first guarded.body) (Some I32) 0 (λ e. cc) },
   refl,
   refl,
-  tt,
-  tt,
+  (refl, tt),
+  (refl, tt, tt),
   (omega arith, refl, lit< tt, tt),
   lit< tt,
   tt,
@@ -133,7 +135,7 @@ stands = (
 )
 
 pub fits : AllFit 0 plan.area setting.written 0 1 (level ∷ [])
-fits = (stopped_are_levels 0 plan.area setting (λ a. one_frame layout) 0 flat_stack written_stack stopped paired stands).fit
+fits = (stopped_are_levels 0 plan.area setting (λ a. one_frame layout (Some I32)) 0 flat_stack written_stack stopped paired stands).fit
 
 -- ---- the pause
 

@@ -1,6 +1,6 @@
 -- A whole module: one import that may pause, and one function that sets a local to 5, calls it, and adds the local to its answer. The
 -- function keeps the local in its frame, and leaves a gap for the slot of the answer.
-use Rattle.std.specs.Prelude.{ℕ, suc, zero, List, [], ◌∷◌, Some, None, Bool, true, false, replicate, codes}
+use Rattle.std.specs.Prelude.{ℕ, suc, zero, ◌+◌, List, [], ◌∷◌, Some, None, Bool, true, false, replicate, codes}
 use Rattle.wa_types.specs.declared.operators.NumOp.TheVariants.{I32Add}
 use Rattle.wa_types.specs.declared.syntax.ImportKind.TheVariants as K
 use Rattle.wa_types.specs.declared.values.ValType.TheVariants.{I32, I64}
@@ -10,7 +10,7 @@ use Rattle.wa_types.specs.Runtime.{with_runtime}
 use Rattle.wa_types.specs.Syntax.{num, basic, call, done, plain, Func, Module}
 use Rattle.wa_model.specs.declared.answers.Said.TheVariants as S
 use Rattle.wa_model.specs.Blocking.{Left}
-use Rattle.run_theory.specs.Flat.{Stmts, no_more, computes, copies, calls}
+use Rattle.run_theory.specs.Flat.{Stmts, no_more, computes, copies, calls, result_got}
 use Rattle.wa_model.specs.Outside.{Answer}
 use Rattle.wa_model.specs.Plan.{Entry, Plan}
 use Rattle.wa_model.specs.Protocol.{exports_of}
@@ -18,8 +18,11 @@ use Rattle.wa_model.specs.Store.{Store}
 use Rattle.wa_model.specs.declared.flat.Operand.TheVariants.{Local, Const}
 use Rattle.guard_form.specs.Bounds.{passing}
 use Rattle.guard_form.specs.Functions.{GuardedFunc, Role, as_is, with_guards, flat_code, written_code}
+use Rattle.guard_form.specs.Guarded.{block_unit}
 use Rattle.guard_form.specs.Pieces.{no_unit, first_piece, units}
+use Rattle.guard_form.specs.Places.{Enclosing, in_a_block}
 use Rattle.guard_runs.specs.Alike.{Setting}
+use Rattle.frame_laws.specs.Function.{value_code}
 use Rattle.frame_laws.specs.Layout.{Layout, kept, gap, save_code, restore_code}
 use Rattle.frame_laws.specs.Stack.{Level}
 use Rattle.guard_runs.specs.Pause.{AnswersAt, PausesAt}
@@ -49,11 +52,14 @@ guarded = record {
   size = 2;
   exits = true;
   restoring = restore_code layout done;
-  saving = save_code layout done;
-  result = Some 1;
-  first = first_piece numbered_places 0 statements;
-  body = units numbered_places 0 statements;
+  saving = save_code layout (value_code (Some I32));
+  first = done;
+  body = block_unit (first_piece numbered_places 0 statements) (units numbered_places 0 statements) (Some 1);
 }
+
+-- its call stands in the function's own block
+abbrev pub around_call : List Enclosing
+around_call = in_a_block 0 1 done done (result_got (Some 1)) no_unit ∷ []
 
 -- its flat form
 abbrev pub flat_function : Func
@@ -132,13 +138,13 @@ left = record { number = 0; entries = []; outcomes = [] }
 abbrev pub level : Level
 level = record {
   func = 1;
-  fn = written_of 0 guarded (one_frame layout);
-  site = site_of 0 guarded 0 0 [] (direct 0) (Some 1) (first_piece numbered_places 1 after_call) no_unit [];
+  fn = written_of 0 guarded (one_frame layout (Some I32));
+  site = site_of 0 guarded 0 0 [] (direct 0) (Some 1) (first_piece numbered_places 1 after_call) no_unit around_call;
   locals = V.I32 5 ∷ V.I32 0 ∷ V.I32 0 ∷ V.I32 0 ∷ V.I64 0 ∷ [];
   ops = [];
   taken = [];
   out = 4;
-  seek = passing guarded.first guarded.body;
+  seek = passing guarded.first guarded.body + 3;
 }
 
 -- From any pause that the law gives, the import's answer brings it back.
