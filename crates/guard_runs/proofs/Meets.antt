@@ -116,7 +116,7 @@ abbrev written_stack : List Activation
 written_stack = waiting 1 (own ++ extra) [] [] (noted_code 0 guarded around_call 0 (Some 1) behind no_unit) (call_labels 0 guarded 0 around_call 0 no_unit) ∷ []
 
 abbrev stopped : Stopped setting 0 flat_stack written_stack
-stopped = above 1 (omega arith) refl own extra [] [] (record { size = refl; more = refl; held = λ e. refl }) 0 (in_block 0 at_start) (directly no_params) (omega arith) (host refl)
+stopped = above 1 (omega arith) refl own extra [] [] (record { size = refl; more = refl }) 0 (record { place = in_block 0 at_start; first_held = λ e c. refl }) (directly no_params) (omega arith) (host refl)
 
 stands : MayStand setting (λ a. one_frame layout (Some I32)) stopped
 unfolding with_runtime followed_by

@@ -11,14 +11,14 @@ use Rattle.frame_laws.specs.FrameMemory.{IsKept}
 use Rattle.frame_laws.specs.Layout.{FrameField, kept, gap}
 use Rattle.frame_laws.specs.Stack.{AllCameBack}
 use Rattle.guard_form.specs.Functions.{with_guards}
-use Rattle.guard_form.specs.Pieces.{flat_units}
+use Rattle.guard_form.specs.Pieces.{call_unit, flat_units}
 use Rattle.guard_form.specs.Places.{flat_labels, noted_code, call_labels}
-use Rattle.guard_form.proofs.PlacesBelow.{alone_number}
+use Rattle.guard_runs.proofs.HeldPlaces.{first_comes}
 use Rattle.guard_runs.specs.Joined.{CallFrame}
 use Rattle.guard_runs.specs.Levels.{flat_waiting, levels_of, FlatFieldsFit, MayStand}
 use Rattle.guard_runs.specs.Returned.{FlatAgain, StacksReturn}
 use Rattle.guard_runs.specs.Alike.{Setting}
-use Rattle.guard_runs.specs.Beside.{Locals}
+use Rattle.guard_runs.specs.Beside.{HeldPlace, Locals}
 use Rattle.guard_runs.specs.Stopped.{Stopped, host, above}
 use Rattle.guard_runs.proofs.WaitingLevels.{got_left, got_behind, kept_left}
 
@@ -48,13 +48,13 @@ module _ (v : Setting) (lay : Activation → CallFrame) where
       let both2 : Locals (with_guards f) ls2 extra2 = record {
         size = n1 ∙ both.size;
         more = n2 ∙ both.more;
-        held = λ a. index ∙ ap V.I32 (alone_number v.globals f k slots x to behind rest xs pl a);
       } in
+      let pl2 : HeldPlace v.globals f extra2 k (call_unit slots x to behind rest) xs = record { place = pl.place; first_held = λ e c. index ∙ ap V.I32 (first_comes v.globals f pl.place e c) } in
       let count = ih.count in
       let code : Code = noted_code v.globals f xs k to behind rest in
       let made : Stopped v callee (waiting fn ls2 [] taken (set_to to (followed_by behind (flat_units rest))) (flat_labels f xs) ∷ ih.new)
       (waiting fn (ls2 ++ extra2) [] taken code (call_labels v.globals f 0 xs k rest) ∷ new') =
-      above {k = k} {slots = slots} {x = x} {to = to} {behind = behind} {rest = rest} {xs = xs} fn here is ls2 extra2 [] taken both2 0 pl gt (omega arith) ih.stopped in
+      above {k = k} {slots = slots} {x = x} {to = to} {behind = behind} {rest = rest} {xs = xs} fn here is ls2 extra2 [] taken both2 0 pl2 gt (omega arith) ih.stopped in
       let act : waiting fn (ls2 ++ extra2) [] taken code (call_labels v.globals f 0 xs k rest) ≡ a =
       ap (λ ys. waiting fn ys [] taken code (call_labels v.globals f 0 xs k rest)) whole ∙ sym r.is in
       record {

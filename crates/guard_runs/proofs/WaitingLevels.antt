@@ -1,5 +1,5 @@
 -- Activations that wait at numbered calls of guarded functions are levels of a stack with frames.
-use Rattle.std.proofs.Common.{◌≡◌, ◌≢◌, ℕ, zero, suc, ◌+◌, ◌<◌, ◌≤◌, List, [], ◌∷◌, ◌++◌, length, Some, None, true, refl, sym, ap, ◌∙◌, subst, arith, length-append, ⊎_elim}
+use Rattle.std.proofs.Common.{inl, ◌≡◌, ◌≢◌, ℕ, zero, suc, ◌+◌, ◌<◌, ◌≤◌, List, [], ◌∷◌, ◌++◌, length, Some, None, true, refl, sym, ap, ◌∙◌, subst, arith, length-append, ⊎_elim}
 use Rattle.std.proofs.lemmas.Bool.{and_parts}
 use Rattle.wa_types.specs.declared.values.ValType.{ValType}
 use Rattle.wa_types.specs.declared.values.Value.{Value}
@@ -202,8 +202,8 @@ module _ (v : Setting) (pair : Paired v) where
           acts = ap (λ more. activation_of w ∷ more) ih.acts;
           fit = (
             record {
-              law = body_keeps g area v.written v.globals k h f cl slots x to behind rest xs (ls ++ extra) u may.5 pl may.4
-                  (λ a. got_behind ls extra f.size both.size ∙ both.held a);
+              law = body_keeps g area v.written v.globals k h f cl slots x to behind rest xs (ls ++ extra) u may.5 pl.place may.4
+                  (λ e z. got_behind ls extra f.size both.size ∙ pl.first_held e (inl z));
               codes = u.codes;
               address_is = may.2;
               living = record {
