@@ -6,17 +6,17 @@ use Rattle.wa_types.specs.declared.values.ValType.{ValType}
 use Rattle.wa_types.specs.Modules.{around, defined_at}
 use Rattle.wa_types.specs.Pausing.{Callee}
 use Rattle.wa_types.specs.Points.{after}
-use Rattle.wa_types.specs.Syntax.{Plain, basic, local_get, local_set, local_tee, br, br_if, br_table, return, unreachable, call, call_indirect, Code, done, plain, nest, branch, Func, Module}
+use Rattle.wa_types.specs.Syntax.{basic, local_get, local_set, local_tee, br, br_if, br_table, return, unreachable, call, call_indirect, Code, done, plain, nest, branch, Func, Module}
 use Rattle.wa_types.specs.Typing.{Around, listed, sig, label, jump, may_jump, jumps, Takes}
 use Rattle.wa_types.specs.Validity.{Valid}
 use Rattle.wa_model.specs.declared.flat.Operand.{Operand}
 use Rattle.wa_model.specs.Store.{gives}
 use Rattle.run_theory.specs.Flat.{Stmts, no_more, computes, copies, calls, leaps, leaps_if, leaps_by, nests, decides, halts, followed_by, got, all_got, set_to, slots_got, last_of, code_of}
-use Rattle.flat_laws.specs.Flatten.{Names, names, carry_to, carry_all, arrive, flat, flat_plain, flattened}
+use Rattle.flat_laws.specs.Flatten.{Names, names, carry_to, carry_all, arrive, flat, flattened}
 use Rattle.flat_laws.specs.Placed.{Good}
 use Rattle.flat_laws.proofs.TableLabels.{AllLabels, table_typed}
 use Rattle.flat_laws.proofs.ValidModules.{good_func}
-use Rattle.guard_form.specs.Functions.{Calls, CallsIn, LabelIn, LabelsIn, PiecesCall, PiecesIn, PlainIn, Room, deeper}
+use Rattle.guard_form.specs.Functions.{Calls, CallsIn, LabelsIn, PiecesCall, PiecesIn, Room, deeper}
 use Rattle.guard_form.specs.Pieces.{Units, no_unit, call_unit, nest_unit, if_unit, call_total, first_piece, holds_call, numbered, piece_call, unit_call, units}
 use Rattle.guard_form.proofs.Insides.{in_any, ins_then}
 use Rattle.slim_laws.specs.Slim as S
