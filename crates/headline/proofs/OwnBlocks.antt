@@ -1,5 +1,5 @@
 -- A flat function's own block as the one unit of its sequence: the same code, the same calls, and a unit inside where a call stands there.
-use Rattle.std.proofs.Common.{◌≡◌, ◌<◌, ℕ, ◌+◌, List, Option, Some, None, Bool, true, refl, append-nil, arith}
+use Rattle.std.proofs.Common.{◌≡◌, ◌<◌, ℕ, List, Option, Some, None, true, refl, append-nil, arith}
 use Rattle.wa_types.specs.Pausing.{Callee, calls_of}
 use Rattle.wa_types.specs.Syntax.{a_block, Code, done, nest}
 use Rattle.run_theory.specs.Flat.{followed_by, result_got}

@@ -15,7 +15,6 @@ use Rattle.run_theory.specs.Fitting.{global_types, types_of}
 use Rattle.run_theory.specs.Growth.{EntryNamed}
 use Rattle.wa_model.specs.Instantiation.{Opening, fails_as, opens, opening}
 use Rattle.wa_model.specs.Plan.{Plan}
-use Rattle.wa_model.specs.Plan as L
 use Rattle.wa_model.specs.Step.{param_count}
 use Rattle.run_theory.proofs.BaseValid.{base_valid}
 use Rattle.run_theory.proofs.FittingNames.{defined_type}

@@ -43,7 +43,7 @@ framed_codes : (l : Layout) (body saving restoring : Code) (r : Option ValType) 
     → FrameCodes (record { layout = l; body = body; given = value_given r; saving = saving; restoring = followed_by restoring; save_most = save_cost l + 1; restore_most = restore_cost l }) k
 framed_codes l body saving restoring r k saves restores apart =
     let saves_back = sym saves in
-    let restores_back = λ c. sym (restores c) in
+    let restores_back : (c : Code) → restore_code l c ≡ followed_by restoring c = λ c. sym (restores c) in
     subst (λ (w : Code × (Code → Code)). FrameCodes (record {
       layout = l;
       body = body;

@@ -14,7 +14,6 @@ use Rattle.wa_model.specs.Configuration.{Activation, call_count, calls_outside, 
 use Rattle.run_theory.specs.Fitting.{types_of}
 use Rattle.run_theory.specs.Flat.{followed_by, set_to}
 use Rattle.wa_model.specs.Plan.{Plan}
-use Rattle.wa_model.specs.Plan as P
 use Rattle.wa_model.specs.Step.{param_count}
 use Rattle.run_theory.proofs.FittingNames.{defined_type}
 use Rattle.run_laws.specs.Ranges.{CodesIn}
