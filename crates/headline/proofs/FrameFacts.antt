@@ -42,12 +42,13 @@ use Rattle.slim_laws.specs.Slim.{Terms}
 use Rattle.slim_laws.proofs.KeptSizes.{same_calls}
 use Rattle.slim_laws.proofs.UnitsAlike.{pieces_call, units_alike}
 use Rattle.slim_laws.proofs.UnitsSlim.{units_slim}
-use Rattle.slim_laws.specs.SlimModule.{SlimPieces, flat_terms}
+use Rattle.slim_laws.specs.SlimModule.{Pieces, SlimPieces, flat_terms}
 use Rattle.headline.specs.EmittedModule.{Emitted, Framing, fields_of, guarded_of, pieces_in}
 use Rattle.headline.proofs.KeptFields.{fields_fit, kept_reverse, kept_take, saved_each, saved_slot, slots_kept, taken_is, typed_at}
 use Rattle.headline.proofs.NumberedCalls.{Took}
 use Rattle.headline.proofs.NumberedStacks.{AtNumber}
 use Rattle.headline.proofs.NumberedStmts.{flat_numbered}
+use Rattle.headline.proofs.OwnBlocks.{block_calls, result_calls}
 use Rattle.headline.proofs.PairedStacks.{PairAt}
 use Rattle.headline.proofs.PlaceSlots.{args_of, slots_there}
 use Rattle.headline.proofs.WrittenLocals.{written_locals}
@@ -171,6 +172,13 @@ module _ (m : Module) (s : Settings) (which : List Bool) (frames : (index : ℕ)
     abbrev t : Terms
     t = flat_terms b ps a.func num.func
 
+    -- the pieces in its own block
+    abbrev us : Pieces
+    us = pieces_in m s which frames a.func
+
+    abbrev result : Option ℕ
+    result = (flattened b a.func num.func).result
+
     abbrev first0 : Code
     first0 = first_piece ps 0 (flattened b a.func num.func).body
 
@@ -179,17 +187,19 @@ module _ (m : Module) (s : Settings) (which : List Bool) (frames : (index : ℕ)
 
     calls_are : calls_of (followed_by gf.first (flat_units gf.body)) ≡ calls_in num.func
     calls_are =
-        same_calls t 0 (sp.out ∷ []) sp.out sp.here [] (followed_by first0 (flat_units units0)) (followed_by gf.first (flat_units gf.body))
-        (units_slim t 0 (sp.out ∷ []) sp.out sp.here [] first0 gf.first units0 gf.body sp.slim)
+        block_calls us.first us.units result
+        ∙ same_calls t 0 (sp.out ∷ []) sp.out sp.here [] (followed_by first0 (flat_units units0)) (followed_by us.first (flat_units us.units))
+        (units_slim t 0 (sp.out ∷ []) sp.out sp.here [] first0 us.first units0 us.units sp.slim)
         ∙ ap calls_of (joins_law ps 0 (flattened b a.func num.func).body) ∙ calls_stay b a.func num.func
 
     at_place : NumberedAt test gf k x (length (calls_of (set_to to (followed_by behind (flat_units rest)))) + calls_behind (flat_labels gf xs))
     at_place =
         let told = flat_numbered b a.func num.func test in
         let free0 = free_law test ps 0 (flattened b a.func num.func).body told in
-        let free = pieces_call t (λ c. test c ≡ false) 0 (sp.out ∷ []) sp.out sp.here [] first0 gf.first units0 gf.body sp.slim free0.0 free0.1 in
-        let alike = units_alike t 0 (sp.out ∷ []) sp.out sp.here [] first0 gf.first units0 gf.body sp.slim in
-        numbers_law test st k gf call_slots x to behind rest xs free.0 free.1 (alike.numbered test (units_law test ps 0 (flattened b a.func num.func).body told)) pl
+        let free = pieces_call t (λ c. test c ≡ false) 0 (sp.out ∷ []) sp.out sp.here [] first0 us.first units0 us.units sp.slim free0.0 free0.1 in
+        let alike = units_alike t 0 (sp.out ∷ []) sp.out sp.here [] first0 us.first units0 us.units sp.slim in
+        numbers_law test st k gf call_slots x to behind rest xs tt (free.0, free.1, result_calls (λ c. test c ≡ false) result, tt)
+        (alike.numbered test (units_law test ps 0 (flattened b a.func num.func).body told), tt) pl
 
     -- the number of the call is that of its place
     pub number : slice_get (Numbered m s which num.func) k ≡ Some (place_of (Some num.func) a.code a.labels)

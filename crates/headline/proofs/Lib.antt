@@ -7,6 +7,7 @@ pub mod CallWeights
 pub mod EmptyAreas
 pub mod FlatStretches
 pub mod FrameFacts
+pub mod FrameTails
 pub mod FromOpenings
 pub mod FromSimulation
 pub mod GivenPlans
@@ -24,6 +25,7 @@ pub mod NumberedStmts
 pub mod OpenedTogether
 pub mod OuterLevels
 pub mod Owed
+pub mod OwnBlocks
 pub mod PairedFlat
 pub mod PairedStacks
 pub mod PauseCosts

@@ -15,7 +15,6 @@ use Rattle.run_theory.specs.Fitting.{global_types, types_of}
 use Rattle.run_theory.specs.Growth.{EntryNamed}
 use Rattle.wa_model.specs.Instantiation.{Opening, fails_as, opens, opening}
 use Rattle.wa_model.specs.Plan.{Plan}
-use Rattle.wa_model.specs.Plan as L
 use Rattle.wa_model.specs.Step.{param_count}
 use Rattle.run_theory.proofs.BaseValid.{base_valid}
 use Rattle.run_theory.proofs.FittingNames.{defined_type}
@@ -26,7 +25,7 @@ use Rattle.run_laws.proofs.SpotRuns.{listed_typed}
 use Rattle.flat_laws.specs.FlatModule.{Flattened, IsPlaced, extra_types, flat_module}
 use Rattle.flat_laws.specs.Flatten.{flattened}
 use Rattle.flat_laws.proofs.FlatModules.{is_flat, sorts_stay, valid_is_flattened, valid_stays}
-use Rattle.guard_form.specs.Functions.{Calls, MayCall, PiecesCall, Role, RoleCalls, as_is, flat_code, size_of, with_guards, written_code}
+use Rattle.guard_form.specs.Functions.{Calls, MayCall, Role, RoleCalls, as_is, flat_code, size_of, with_guards, written_code}
 use Rattle.guard_form.specs.Functions as R
 use Rattle.guard_form.proofs.Grouped.{free_law}
 use Rattle.guard_runs.specs.Alike.{Paired, Setting}
@@ -37,14 +36,14 @@ use Rattle.headline.specs.Core.{Core, CoreFits, table_in, world_of}
 use Rattle.headline.proofs.Spaces.{grown_func_type}
 use Rattle.headline.specs.SlimBeside.{SlimFits}
 use Rattle.slim_laws.specs.SlimModuleLaws.{SlimModuleFits}
-use Rattle.slim_laws.specs.SlimModule.{body_of_func, body_with, flat_terms, with_body}
+use Rattle.slim_laws.specs.SlimModule.{body_of_func, body_with, with_body}
 use Rattle.slim_laws.proofs.SlimModules.{fit_law, flat_size, mapped, slim_found}
-use Rattle.slim_laws.proofs.UnitsAlike.{pieces_call}
-use Rattle.guard_form.specs.Pieces.{first_piece, units}
+use Rattle.slim_laws.proofs.UnitsInside.{pieces_stay}
 use Rattle.headline.specs.Given.{Given}
 use Rattle.headline.specs.CoreOf.{core_of, flat_core}
 use Rattle.headline.specs.EmittedModule.{Framing, Emitted, Guarded, Stays, WrittenAs, guarded_of, pieces_in, places_in, role_at, slim_of, terms_of}
 use Rattle.headline.proofs.NumberedStmts.{flat_numbered, got_first, got_second}
+use Rattle.headline.proofs.OwnBlocks.{block_flat, result_in}
 
 -- ---- lists
 
@@ -239,7 +238,7 @@ module _ (m : Module) (s : Settings) (which : List Bool) (frames : (index : ℕ)
         let n2 : length (declared_locals g.locals) ≡ length (declared_locals f.locals ++ extra_types b f) = ap length h.1 in
         let n3 : param_count (func_type_at v.flat x) ≡ param_count (type_at b f.sort) = ap param_count ty in
         record {
-          flat = h.0 ∙ ap flat_code (sym role);
+          flat = h.0 ∙ block_flat (pieces_in m s which frames x).first (pieces_in m s which frames x).units ff.result ∙ ap flat_code (sym role);
           written = wr.body ∙ ap (written_code (global_space m)) (sym role);
           locals = wr.locals ∙ ap (λ z. z ++ I32 ∷ I32 ∷ I64 ∷ []) ((is_flat b x f).1 ∙ sym h.1) ∙ ap (λ r. declared_locals g.locals ++ R.extra_types r) (sym role);
           size = sized n1 n2 n3 ∙ ap size_of (sym role);
@@ -313,9 +312,9 @@ module _ (m : Module) (s : Settings) (which : List Bool) (frames : (index : ℕ)
         let ps = Rattle.wa_types.specs.Pausing.Numbered m s which f in
         let body = (flattened b x f).body in
         let free = free_law test ps 0 body (flat_numbered b x f test) in
-        let sp = em.slim x f (base_defined m x ∙ q) e in
-        pieces_call (flat_terms b ps x f) (λ c. test c ≡ false) 0 (sp.out ∷ []) sp.out sp.here [] (first_piece ps 0 body) (frames x).pieces.first (units ps 0 body)
-        (frames x).pieces.units sp.slim free.0 free.1
+        let is : defined_at (Base m) x ≡ Some f = base_defined m x ∙ q in
+        let stay = pieces_stay b ps x f (frames x).pieces (λ c. test c ≡ false) (base_valid m valid) is (em.slim x f is e) free.0 free.1 in
+        (tt, (stay.0, stay.1, result_in (λ c. test c ≡ false) (flattened b x f).result, tt))
     role_calls x false e (Some f) q = calls_each (λ c. test c ≡ false) (pruned f.body) (λ i c at. not_numbered m s which x f i c tells q e at)
 
     -- what stands in the table is a function

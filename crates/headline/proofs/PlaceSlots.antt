@@ -126,8 +126,11 @@ module _ (m : Module) (s : Settings) (which : List Bool) (frames : (index : ℕ)
       (all_calls rows body refl)
 
   each : (sp : SlimPieces (Base m) (Numbered m s which f) x f (pieces_in m s which frames x)) → EachUnit AtRank 0 (guarded_of m s which frames x f).body
-  each sp = each_slim AtRank (flat_terms b ps x f) 0 (sp.out ∷ []) sp.out sp.here [] (first_piece ps 0 body) (pieces_in m s which frames x).first (units ps 0 body)
-      (pieces_in m s which frames x).units 0 sp.slim each_plain
+  each sp = (
+    each_slim AtRank (flat_terms b ps x f) 0 (sp.out ∷ []) sp.out sp.here [] (first_piece ps 0 body) (pieces_in m s which frames x).first (units ps 0 body)
+        (pieces_in m s which frames x).units 0 sp.slim each_plain,
+    tt,
+  )
 
   -- the slots of the call of this number
   pub slots_there : (sp : SlimPieces (Base m) (Numbered m s which f) x f (pieces_in m s which frames x)) (st k place : ℕ) (xs : List ℕ) (c : Callee) (to : Option ℕ) (behind : Code)

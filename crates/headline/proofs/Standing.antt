@@ -14,7 +14,6 @@ use Rattle.wa_model.specs.Configuration.{Activation, call_count, calls_outside, 
 use Rattle.run_theory.specs.Fitting.{types_of}
 use Rattle.run_theory.specs.Flat.{followed_by, set_to}
 use Rattle.wa_model.specs.Plan.{Plan}
-use Rattle.wa_model.specs.Plan as P
 use Rattle.wa_model.specs.Step.{param_count}
 use Rattle.run_theory.proofs.FittingNames.{defined_type}
 use Rattle.run_laws.specs.Ranges.{CodesIn}
@@ -46,6 +45,7 @@ use Rattle.headline.specs.Framed.{FramedCalls, pause_cost}
 use Rattle.headline.proofs.CallWeights.{args_weigh}
 use Rattle.headline.proofs.FrameFacts as F
 use Rattle.headline.proofs.NumberedStacks.{AllAtNumbers, AtNumber, space_below}
+use Rattle.headline.proofs.OwnBlocks.{block_holds}
 use Rattle.headline.proofs.PairedFlat.{base_defined, base_locals, core_fits}
 use Rattle.headline.proofs.PairedStacks.{AllPairs, PairAt, call_frame_is}
 use Rattle.headline.proofs.WantedFields.{lays, number_is}
@@ -140,9 +140,12 @@ module _ (m : Module) (s : Settings) (which : List Bool) (frames : (index : ℕ)
                 let ps = Numbered m s which num.func in
                 let body = (flat_of m s which frames a.func num.func).body in
                 let sp = em.slim a.func num.func num.is pr.told in
-                (units_alike (flat_terms (Base m) ps a.func num.func) 0 (sp.out ∷ []) sp.out sp.here [] (first_piece ps 0 body) (frames a.func).pieces.first (units ps 0 body)
-                (frames a.func).pieces.units sp.slim).arms
-                (arms_law ps 0 body);
+                let pieces = (frames a.func).pieces in (
+                  block_holds st gf pieces.first pieces.units (flat_of m s which frames a.func num.func).result n slots x to behind rest xs refl pl,
+                  (units_alike (flat_terms (Base m) ps a.func num.func) 0 (sp.out ∷ []) sp.out sp.here [] (first_piece ps 0 body) pieces.first (units ps 0 body) pieces.units sp.slim).arms
+                      (arms_law ps 0 body),
+                  tt,
+                );
             fields = subst (FlatFieldsFit (a.locals ++ pr.extra)) (sym fr.fields) (F.fields m s which frames p valid em a a' pr table g num more fit fr.keep);
             small = omega arith;
             kept = subst (AllKept slots) (sym fr.fields) (F.kept_slots m s which frames p valid em a a' pr table g num more fit st n slots x to behind rest xs pl left fr.keep stacked);
@@ -240,7 +243,7 @@ module _ (m : Module) (s : Settings) (which : List Bool) (frames : (index : ℕ)
       params_are = ap (λ y. param_count (func_type_at v.flat y)) func_is ∙ params_same a.func num.func num.is
 
       weighs_enough : param_count (func_type_at v.flat fn)
-          + (unwinding (written_of st f (k.lay act)) 4 + 1 + (2 * length slots + 1) + rewinding (written_of st f (k.lay act)) (passing f.first f.body)) ≤ activation_bound m (suspended (Base m) a)
+          + (unwinding (written_of st f (k.lay act)) 4 + 1 + (2 * length slots + 1) + rewinding (written_of st f (k.lay act)) (passing f.first f.body + 3)) ≤ activation_bound m (suspended (Base m) a)
       weighs_enough = let w = level.weighs in let e = bound_is in let q = params_are in omega arith
 
     abbrev level_at : (fn : ℕ) (f : GuardedFunc) (n h : ℕ) (slots : List ℕ) (x : Callee) (to : Option ℕ) (behind : Code) (rest : Units) (xs : List Enclosing) (ls extra ops taken : List Value) → Level
@@ -252,7 +255,7 @@ module _ (m : Module) (s : Settings) (which : List Bool) (frames : (index : ℕ)
       ops = ops;
       taken = taken;
       out = 4;
-      seek = passing f.first f.body;
+      seek = passing f.first f.body + 3;
     }
 
     pub stands_so : (table : List (Option ℕ)) (g c : ℕ) (us vs ws : List Activation) (d : Stopped v c vs ws) → AllPairs (Base m) which us vs → AllAtNumbers m s which valid table g us

@@ -18,7 +18,7 @@ use Rattle.headline.specs.EmittedModule.{Framing, fields_of, guarded_of}
 
 -- what unwinding and rewinding a guarded function costs at most, from a call with this frame
 abbrev pub pause_cost : (state : ℕ) → GuardedFunc → CallFrame → ℕ
-pause_cost st f l = unwinding (written_of st f l) 4 + rewinding (written_of st f l) (passing f.first f.body)
+pause_cost st f l = unwinding (written_of st f l) 4 + rewinding (written_of st f l) (passing f.first f.body + 3)
 
 module _ (m : Module) (s : Settings) (which : List Bool) (frames : (index : ℕ) → Framing) where
   -- At call k, which has this place, the codes save and restore the frame: it keeps the locals that the policy saves there, own ones and

@@ -1,5 +1,5 @@
 -- Functions flattened, guarded and given frames: how large and how deep they are, and what they cost at a pause.
-use Rattle.std.specs.Prelude.{◌≡◌, ◌≤◌, ℕ, ◌+◌, ◌*◌, List, length, Some, slice_get}
+use Rattle.std.specs.Prelude.{◌≡◌, ◌≤◌, ℕ, ◌+◌, ◌*◌, List, length, Some, false, slice_get}
 use Rattle.wa_types.specs.Bounds.{Weight}
 use Rattle.wa_types.specs.Counts.{depth_of}
 use Rattle.wa_types.specs.Frames.{SlotPairs}
@@ -35,7 +35,7 @@ KeepsFew m f l = kept_count l.fields ≤ length (locals_of m f) + length (SlotPa
 abbrev pub seek_cost : Module → (x : ℕ) → Func → (places : List ℕ) → ℕ
 seek_cost m x f places = passing done (plain_units m x f places) + 3
 
--- The bounds of a rewritten function: on its size and its nesting, prologue and epilogue included; and on its cost at a pause, for
+-- The bounds of a rewritten function: on its size and its nesting, the codes of its frame included; and on its cost at a pause, for
 -- unwinding and rewinding together.
 pub record IsSmall (m : Module) (x : ℕ) (f : Func) (st : ℕ) (places : List ℕ) (l : Layout) : Type 0 where
   pub size : instructions_and_labels (function_code (rewritten m x f st places l)) ≤ 112 * (Weight m f + 4)

@@ -12,6 +12,7 @@ pub mod StepTable
 pub mod Stretches
 pub mod UnitSizes
 pub mod UnitsAlike
+pub mod UnitsInside
 pub mod UnitsPassed
 pub mod UnitsSlim
 pub mod UnitsTyped
