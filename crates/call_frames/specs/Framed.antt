@@ -22,7 +22,7 @@ set_frames sets base address p = frames_of (told_frames (length sets) base addre
 
 -- At call k the codes save and restore exactly the locals of its set, in order, and cost little.
 pub record FramedAt (types : List ValType) (sets : List (List Bool)) (base address : ℕ) (p : FrameParts) (k : ℕ) : Type 0 where
-  pub codes : (body : Code) (result : Option ℕ) → FrameCodes (by_call (set_frames sets base address p) k body result) k
+  pub codes : (body : Code) (result : Option ValType) → FrameCodes (by_call (set_frames sets base address p) k body result) k
   pub fields : fields_at k (set_frames sets base address p).parts ≡ fields_in 0 (get_or sets k []) types
   pub cost : save_bound_at (set_frames sets base address p) k + restore_bound_at (set_frames sets base address p) k
       ≤ 32 + tests_most (length types) (length sets) + 6 * kept_count (fields_in 0 (get_or sets k []) types)

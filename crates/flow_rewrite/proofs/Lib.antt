@@ -5,7 +5,7 @@ pub mod FlatNumbers
 mod GuardLemmas
 pub mod NumberLemmas
 pub mod NumberingLemmas
-mod PieceLemmas
+pub mod PieceLemmas
 pub mod PutLemmas
 pub mod RaiseLemmas
 pub mod StmtLemmas

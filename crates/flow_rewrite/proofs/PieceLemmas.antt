@@ -8,13 +8,14 @@ use Rattle.wa_types.specs.Syntax.{const, num, global_get, local_get, br_if, basi
 use Rattle.wa_types.specs.Pausing.{Callee}
 use Rattle.wa_types.specs.Counts.{depth_of}
 use Rattle.wa_types.specs.View.{in_front, onto, code}
-use Rattle.wa_types.proofs.ViewLemmas.{is_block, is_loop, is_if, is_plain, instr_kind, in_block, in_loop, in_if, onto_done, onto_none}
+use Rattle.wa_types.proofs.ViewLemmas.{is_block, is_loop, is_if, is_plain, instr_kind, in_block, in_loop, in_if, onto_done}
 use Rattle.wa_model.specs.declared.flat.Operand.{Operand}
 use Rattle.wa_model.specs.declared.flat.Operand.TheVariants.{Local, Const}
 use Rattle.run_theory.specs.Flat.{followed_by, got, set_to, slots_got}
 use Rattle.guard_form.specs.Pieces.{call_to, got_any}
-use Rattle.guard_form.specs.Guarded.{GuardIndices, index_with, raised_plain, raised, sought, index_noted, noted}
+use Rattle.guard_form.specs.Guarded.{GuardIndices, index_with, raised_plain, raised, index_noted, noted}
 use Rattle.guard_form.proofs.CodeLemmas.{then_done}
+use Rattle.flow_rewrite.specs.Begun.{led, sought_begun}
 use Rattle.flow_rewrite.specs.Putting.{Puts}
 use Rattle.flow_rewrite.specs.Raising.{LabelsBelow, Raisable}
 use Rattle.flow_rewrite.specs.declared.pieces.Target.{Target}
@@ -53,25 +54,27 @@ target_direct x f e rest = direct_is f rest ∙ ap (λ y. plain (call_to (callee
 pub target_indirect : (x : Target) (t : ℕ) → x ≡ Indirect t → (rest : Code) → in_front (CallIndirect t) rest ≡ plain (call_to (callee_of x)) rest
 target_indirect x t e rest = indirect_is t rest ∙ ap (λ y. plain (call_to (callee_of y)) rest) (sym e)
 
--- the test of the index in front of a call
-pub test_of : (i : GuardIndices) (k l : ℕ) (l0 l1 l2 : List Instr) → l0 ≡ []
+-- the test of the index in front of a call, behind a lead
+pub test_of : (i : GuardIndices) (lead : Option Code) (k l : ℕ) (l0 l1 l2 : List Instr) → ((c : Code) → onto l0 c ≡ led lead c)
     → Puts l0 l1 (λ c. plain (local_get i.index) (plain (basic (const (V.I32 k))) (plain (basic (num I32Ne)) c))) → l2 ≡ l1 ++ BrIf l ∷ []
-    → code l2 ≡ index_with i (basic (num I32Ne)) k (plain (br_if l) done)
-test_of i k l l0 l1 l2 e puts f =
+    → code l2 ≡ led lead (index_with i (basic (num I32Ne)) k (plain (br_if l) done))
+test_of i lead k l l0 l1 l2 e puts f =
     sym (onto_done l2) ∙ put_one l1 l2 (BrIf l) (plain (br_if l)) f (br_if_is l) done ∙ puts (plain (br_if l) done)
-    ∙ ap (λ xs. onto xs (index_with i (basic (num I32Ne)) k (plain (br_if l) done))) e ∙ onto_none _
+    ∙ e (index_with i (basic (num I32Ne)) k (plain (br_if l) done))
 
-pub search_of : (i : GuardIndices) (l m k : ℕ) (first : Code) (old new other inside : List Instr) → code other ≡ index_with i (basic (num I32Ne)) k (plain (br_if l) done)
-    → code inside ≡ raised 0 m first → Puts old new (λ c. plain (basic (global_get i.state)) (branch None (code other) (code inside) c)) → Puts old new (sought i l m k first)
-search_of i l m k first old new other inside eo ei puts = λ rest.
+pub search_of : (i : GuardIndices) (lead : Option Code) (l m k : ℕ) (first : Code) (old new other inside : List Instr)
+    → code other ≡ led lead (index_with i (basic (num I32Ne)) k (plain (br_if l) done))
+    → code inside ≡ raised 0 m first → Puts old new (λ c. plain (basic (global_get i.state)) (branch None (code other) (code inside) c)) → Puts old new (sought_begun i lead l m k first)
+search_of i lead l m k first old new other inside eo ei puts = λ rest.
     puts rest ∙ (λ j. onto old (plain (basic (global_get i.state)) (branch None (eo j) (ei j) rest)))
 
 pub called_of : (i : GuardIndices) (label k : ℕ) (tail : Code) (x : Callee) (slots : List ℕ) (to : Option ℕ) (l1 l2 l3 l4 l5 l6 : List Instr)
     → Puts l1 l2 (slots_got slots) → Puts l2 l3 (plain (call_to x))
     → Puts l3 l4 (λ c. index_noted i.one_call i.index k (plain (basic (global_get i.state)) (plain (br_if label) c)))
-    → Puts l4 l5 (set_to to) → code l6 ≡ onto l5 tail → code l6 ≡ onto l1 (slots_got slots (plain (call_to x) (noted i label k (set_to to tail))))
-called_of i label k tail x slots to l1 l2 l3 l4 l5 l6 p2 p3 p4 p5 e6 =
-    e6 ∙ p5 tail ∙ p4 (set_to to tail) ∙ p3 (noted i label k (set_to to tail)) ∙ p2 (plain (call_to x) (noted i label k (set_to to tail)))
+    → Puts l4 l5 (set_to to) → Puts l5 l6 (followed_by tail) → Puts l1 l6 (λ c. slots_got slots (plain (call_to x) (noted i label k (set_to to (followed_by tail c)))))
+called_of i label k tail x slots to l1 l2 l3 l4 l5 l6 p2 p3 p4 p5 p6 = λ rest.
+    let c = followed_by tail rest in
+    p6 rest ∙ p5 c ∙ p4 (set_to to c) ∙ p3 (noted i label k (set_to to c)) ∙ p2 (plain (call_to x) (noted i label k (set_to to c)))
 
 -- ---- a condition
 
@@ -88,6 +91,18 @@ pub onto_then : (xs : List Instr) (c : Code) → onto xs c ≡ followed_by (code
 unfolding code onto followed_by
 onto_then [] c = refl
 onto_then (x ∷ xs) c = ap (in_front x) (onto_then xs c) ∙ sym (followed_front x (onto xs done) c)
+
+pub lead_some : (lead : Option Code) (xs : List Instr) (rest : Code) → lead ≡ Some (code xs) → onto xs rest ≡ led lead rest
+lead_some lead xs rest is = onto_then xs rest ∙ ap (λ o. led o rest) (sym is)
+
+followed_onto : (xs : List Instr) (a c : Code) → followed_by (onto xs a) c ≡ onto xs (followed_by a c)
+unfolding onto
+followed_onto [] a c = refl
+followed_onto (x ∷ xs) a c = followed_front x (onto xs a) c ∙ ap (in_front x) (followed_onto xs a c)
+
+-- code that was put as the last thing, with whatever behind it
+pub put_whole : (old new : List Instr) (a : Code) → code new ≡ onto old a → Puts old new (followed_by a)
+put_whole old new a is rest = onto_then new rest ∙ ap (λ z. followed_by z rest) is ∙ followed_onto old a rest
 
 raised_got : (d n : ℕ) (o : Operand) → raised d n (got o done) ≡ got o done
 raised_got d n (Local x) = refl

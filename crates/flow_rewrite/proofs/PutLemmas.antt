@@ -8,7 +8,7 @@ use Rattle.wa_types.specs.declared.operators.NumOp.{NumOp}
 use Rattle.wa_types.specs.declared.instrs.Instr.TheVariants.{Unreachable, Const as ConstInstr, Num, Br, BrIf, LocalGet, LocalSet, GlobalGet}
 use Rattle.wa_types.specs.Syntax.{const, num, global_get, basic, local_get, local_set, br, br_if, unreachable, Code, done, plain}
 use Rattle.wa_types.specs.View.{in_front, onto, code}
-use Rattle.wa_types.proofs.ViewLemmas.{is_block, is_loop, is_if, is_plain, instr_kind, in_block, in_loop, in_if, onto_append, onto_done, onto_none}
+use Rattle.wa_types.proofs.ViewLemmas.{is_block, is_loop, is_if, is_plain, instr_kind, in_block, in_loop, in_if, onto_append, onto_done}
 use Rattle.wa_model.specs.declared.flat.Operand.{Operand}
 use Rattle.wa_model.specs.declared.flat.Operand.TheVariants.{Local, Const}
 use Rattle.run_theory.specs.Flat.{followed_by, got, all_got, set_to, slots_got}
@@ -110,6 +110,5 @@ got_const o v e rest = const_is v rest ∙ ap (λ z. got z rest) (sym e)
 pub set_told : (to : Option ℕ) (x : ℕ) → to ≡ Some x → (rest : Code) → in_front (LocalSet x) rest ≡ set_to to rest
 set_told to x e rest = set_is x rest ∙ ap (λ z. set_to z rest) (sym e)
 
-pub one_const : (l0 l1 : List Instr) (n : ℕ) → l0 ≡ [] → l1 ≡ l0 ++ ConstInstr (V.I32 n) ∷ [] → code l1 ≡ plain (basic (const (V.I32 n))) done
-one_const l0 l1 n e f = sym (onto_done l1) ∙ put_one l0 l1 (ConstInstr (V.I32 n)) (plain (basic (const (V.I32 n)))) f (const_is (V.I32 n)) done
-    ∙ ap (λ xs. onto xs (plain (basic (const (V.I32 n))) done)) e ∙ onto_none (plain (basic (const (V.I32 n))) done)
+pub const_put : (old new : List Instr) (n : ℕ) → new ≡ old ++ ConstInstr (V.I32 n) ∷ [] → code new ≡ onto old (plain (basic (const (V.I32 n))) done)
+const_put old new n e = sym (onto_done new) ∙ put_one old new (ConstInstr (V.I32 n)) (plain (basic (const (V.I32 n)))) e (const_is (V.I32 n)) done

@@ -1,6 +1,6 @@
 -- Units, one by one.
-use Rattle.std.proofs.Common.{◌≡◌, ℕ, zero, suc, ◌+◌, ◌<◌, ◌≤◌, ◌^◌, ◌∷◌, List, [], length, get_or, drop, Option, Some, None, Bool, true, false, subst, refl, sym, ap, ◌∙◌, arith, add-one, drop-cons}
-use Rattle.std.specs.Prelude.{if◌then◌else◌, min, nat_eq}
+use Rattle.std.proofs.Common.{◌≡◌, ℕ, zero, suc, ◌+◌, ◌<◌, ◌≤◌, ◌^◌, ◌∷◌, ◌++◌, List, [], length, get_or, drop, Option, Some, None, Bool, true, false, subst, refl, sym, ap, ◌∙◌, arith, add-one, drop-cons}
+use Rattle.std.specs.Prelude.{min, nat_eq}
 use Rattle.std.proofs.lemmas.Bool.{ne_eqb}
 use Rattle.std.specs.declared.vec.Vec.{Vec}
 use Rattle.std.specs.declared.alloc.Global.{Global}
@@ -11,10 +11,10 @@ use Rattle.wa_types.specs.Syntax.{a_block, a_loop, Plain, Shape, Code, plain, ne
 use Rattle.wa_types.specs.View.{code}
 use Rattle.wa_types.proofs.ViewLemmas.{code_none}
 use Rattle.wa_model.specs.declared.flat.Operand.{Operand}
-use Rattle.run_theory.specs.Flat.{followed_by, set_to}
+use Rattle.run_theory.specs.Flat.{followed_by, result_got, set_to}
 use Rattle.guard_form.specs.Pieces.{Units, no_unit, call_unit, nest_unit, if_unit, any_unit, call_to, got_any, flat_units, numbers_in}
 use Rattle.guard_form.specs.Bounds.{unit_count}
-use Rattle.guard_form.specs.Guarded.{Exit, each_end, its_end, by_label, nowhere, body_exit, exit_behind, exit_inside}
+use Rattle.guard_form.specs.Guarded.{Exit, its_end, by_label, nowhere, function_end, block_unit, exit_behind, exit_inside}
 use Rattle.guard_form.proofs.UnitLemmas.{Some_unit}
 use Rattle.flow_rewrite.specs.Raising.{Raisable}
 use Rattle.flow_rewrite.specs.declared.pieces.Target.{Target}
@@ -22,8 +22,7 @@ use Rattle.flow_rewrite.specs.declared.pieces.Unit.{Unit, Row_of-Unit, end_of-Un
 use Rattle.flow_rewrite.specs.declared.pieces.Unit.TheBlock.{hidden-the_row-Unit-0}
 use Rattle.flow_rewrite.specs.declared.pieces.Unit.TheVariants.{Call, Block, Loop, If, Block', Loop', If'}
 use Rattle.flow_rewrite.specs.UnitView.{callee_of, unit_in_front, row_units, units_of}
-use Rattle.flow_rewrite.specs.declared.exits.ExitTo.{ExitTo}
-use Rattle.flow_rewrite.specs.Exits.{exit_of, LabelBelow}
+use Rattle.flow_rewrite.specs.Exits.{exit_at, LabelBelow}
 use Rattle.flow_rewrite.specs.Fronts.{UnitsRaisable, Ready, piece_behind}
 use Rattle.flow_rewrite.proofs.PieceLemmas.{raisable_then, raisable_slots, raisable_to, raisable_got, raisable_done, shallow_of}
 
@@ -58,6 +57,14 @@ pub if_is : (u : Unit) (o : Option Operand) (fa : Vec Instr Global) (a : Vec Uni
 unfolding unit_in_front row_units
 if_is u o fa a fb b behind e rest =
     ap (λ y. unit_in_front y rest) e ∙ (λ j. if_unit o (code fa.items) (vec_is a j) (code fb.items) (vec_is b j) (code behind.items) rest)
+
+-- a list of one block
+pub own_block_is : (first : Vec Instr Global) (body : Vec Unit Global) (behind : Vec Instr Global) (none new : List Unit) (o : Option ℕ) → none ≡ [] → new ≡ none ++ Block first body behind ∷ []
+    → code behind.items ≡ result_got o → units_of new ≡ block_unit (code first.items) (units_of body.items) o
+unfolding units_of
+own_block_is first body behind none new o empty pushed got =
+    ap units_of (pushed ∙ ap (λ xs. xs ++ Block first body behind ∷ []) empty) ∙ block_is (Block first body behind) first body behind refl no_unit
+    ∙ ap (λ z. nest_unit a_block (code first.items) (units_of body.items) z no_unit) got
 
 pub units_none : units_of [] ≡ no_unit
 unfolding units_of
@@ -217,65 +224,58 @@ behind_below a_block d = omega arith
 behind_below a_loop d = tt
 
 -- inside of a construct an exit's label is one further out
-pub exit_below : (e : Exit) (s : Shape) (more : Bool) (d : ℕ) → LabelBelow d e → LabelBelow (d + 1) (exit_inside e s more)
-exit_below each_end s more d h = tt
-exit_below its_end s more d h = behind_below s d
-exit_below (by_label l) s true d h = behind_below s d
-exit_below (by_label l) s false d h = omega arith
-exit_below nowhere s true d h = behind_below s d
-exit_below nowhere s false d h = tt
+exit_below : (e : Exit) (s : Shape) (d : ℕ) → LabelBelow d e → LabelBelow (d + 1) (exit_inside e s false)
+exit_below its_end s d h = behind_below s d
+exit_below (by_label l) s d h = omega arith
+exit_below nowhere s d h = tt
+exit_below function_end s d h = tt
 
 pub label_small : (e : Exit) (d : ℕ) → d < 2 ^ 31 → LabelBelow d e → LabelBelow (2 ^ 31) e
-label_small each_end d lt h = tt
 label_small its_end d lt h = tt
 label_small (by_label l) d lt h = omega arith
 label_small nowhere d lt h = tt
+label_small function_end d lt h = tt
 
-pub call_small : (e : Exit) (more : Bool) → LabelBelow (2 ^ 31) e → LabelBelow (2 ^ 31) (if more then its_end else e)
-call_small e true h = tt
-call_small e false h = h
+unit_below : (d : ℕ) (e : Exit) (more : Bool) → LabelBelow d e → LabelBelow d (exit_at e more)
+unit_below d e true h = tt
+unit_below d e false h = h
+
+-- one unit of a sequence has its own exit
+pub ready_at : (e v : Exit) (more : Bool) (d k : ℕ) (piece : Code) (us : Units) → v ≡ exit_at e more → Ready e d k piece us → Ready v d k piece us
+ready_at e v more d k piece us is h = record { label = subst (LabelBelow d) (sym is) (unit_below d e more h.label); piece = h.piece; units = h.units; numbers = h.numbers }
 
 pub call_ready : (e : Exit) (d k : ℕ) (piece : Code) (v : Units) (slots : List ℕ) (x : Callee) (to : Option ℕ) (behind : Code) → v ≡ call_unit slots x to behind no_unit → Ready e d k piece v
     → Raisable d 2 behind × (k + 1 < 2 ^ 32)
 call_ready e d k piece v slots x to behind is h = let q = subst (Ready e d k piece) is h in let n = q.numbers in (q.units.0, omega arith)
 
-pub nest_ready : (e w : Exit) (more : Bool) (d k : ℕ) (piece : Code) (v : Units) (s : Shape) (first : Code) (body : Units) (behind : Code) → v ≡ nest_unit s first body behind no_unit
-    → w ≡ exit_inside e s more → Ready e d k piece v → Ready w (d + 1) k first body
-nest_ready e w more d k piece v s first body behind is ew h =
+pub nest_ready : (e w : Exit) (d k : ℕ) (piece : Code) (v : Units) (s : Shape) (first : Code) (body : Units) (behind : Code) → v ≡ nest_unit s first body behind no_unit
+    → w ≡ exit_inside e s false → Ready e d k piece v → Ready w (d + 1) k first body
+nest_ready e w d k piece v s first body behind is ew h =
     let q = subst (Ready e d k piece) is h in
     let n = q.numbers in
     let z : suc d ≡ d + 1 = omega arith in
     record {
-      label = subst (LabelBelow (d + 1)) (sym ew) (exit_below e s more d q.label);
+      label = subst (LabelBelow (d + 1)) (sym ew) (exit_below e s d q.label);
       piece = subst (λ l. Raisable l 2 first) z q.units.0;
       units = subst (λ l. UnitsRaisable l body) z q.units.1;
       numbers = omega arith;
     }
 
-pub arms_ready : (e w : Exit) (more : Bool) (d k j : ℕ) (piece : Code) (v : Units) (o : Option Operand) (fa : Code) (a : Units) (fb : Code) (b : Units) (behind : Code)
+pub arms_ready : (e w : Exit) (d k j : ℕ) (piece : Code) (v : Units) (o : Option Operand) (fa : Code) (a : Units) (fb : Code) (b : Units) (behind : Code)
     → v ≡ if_unit o fa a fb b behind no_unit
-    → w ≡ exit_inside e a_block more → Ready e d k piece v → Ready w (d + 1) k fa a × (j ≡ k + numbers_in a → Ready w (d + 1) j fb b)
-arms_ready e w more d k j piece v o fa a fb b behind is ew h =
+    → w ≡ exit_inside e a_block false → Ready e d k piece v → Ready w (d + 1) k fa a × (j ≡ k + numbers_in a → Ready w (d + 1) j fb b)
+arms_ready e w d k j piece v o fa a fb b behind is ew h =
     let q = subst (Ready e d k piece) is h in
     let n = q.numbers in
     let z : suc d ≡ d + 1 = omega arith in
-    let below = subst (LabelBelow (d + 1)) (sym ew) (exit_below e a_block more d q.label) in (
+    let below = subst (LabelBelow (d + 1)) (sym ew) (exit_below e a_block d q.label) in (
       record { label = below; piece = subst (λ l. Raisable l 2 fa) z q.units.0; units = subst (λ l. UnitsRaisable l a) z q.units.1; numbers = omega arith },
       λ x. record { label = below; piece = subst (λ l. Raisable l 2 fb) z q.units.2; units = subst (λ l. UnitsRaisable l b) z q.units.3; numbers = omega arith },
     )
 
-body_below : (exits : Bool) → LabelBelow 0 (body_exit exits)
-body_below true = tt
-body_below false = tt
-
-pub whole_ready : (x : ExitTo) (exits : Bool) (xs first : List Instr) (ys us : List Unit) → exit_of x ≡ body_exit exits → xs ≡ first → ys ≡ us
-    → Raisable 0 2 (followed_by (code first) (flat_units (units_of us))) → numbers_in (units_of us) < 2 ^ 32 → Ready (exit_of x) 0 0 (code xs) (units_of ys)
-whole_ready x exits xs first ys us ex e f h few =
+pub whole_ready : (xs first : List Instr) (ys us : List Unit) → xs ≡ first → ys ≡ us
+    → Raisable 0 2 (followed_by (code first) (flat_units (units_of us))) → numbers_in (units_of us) < 2 ^ 32 → Ready function_end 0 0 (code xs) (units_of ys)
+whole_ready xs first ys us e f h few =
     let q = raisable_then 0 2 (code first) (flat_units (units_of us)) h in
-    subst (λ z. Ready (exit_of x) 0 0 (code z) (units_of ys)) (sym e)
-    (subst (λ z. Ready (exit_of x) 0 0 (code first) (units_of z)) (sym f) (record {
-      label = subst (LabelBelow 0) (sym ex) (body_below exits);
-      piece = q.0;
-      units = pieces_raisable 0 (units_of us) q.1;
-      numbers = omega arith;
-    }))
+    subst (λ z. Ready function_end 0 0 (code z) (units_of ys)) (sym e)
+    (subst (λ z. Ready function_end 0 0 (code first) (units_of z)) (sym f) (record { label = tt; piece = q.0; units = pieces_raisable 0 (units_of us) q.1; numbers = omega arith }))

@@ -1,3 +1,4 @@
+pub mod Begun
 pub mod Emitting
 pub mod Exits
 pub mod Fronts

@@ -1,19 +1,20 @@
 //! Numbered calls.
 
 ghost use Rattle.std.specs.Prelude.{◌≡◌, ◌<◌, ◌^◌, false, OnOk};
-ghost use Rattle.wa_types.specs.Syntax.{Code, done, plain};
+ghost use Rattle.wa_types.specs.Syntax.{Code, plain};
 ghost use Rattle.wa_types.specs.View.{code, onto};
-ghost use Rattle.run_theory.specs.Flat.{set_to, slots_got};
-ghost use Rattle.guard_form.specs.Guarded.{call_front, call_guarded, noted, own_block, raised, sought};
+ghost use Rattle.run_theory.specs.Flat.{followed_by, set_to, slots_got};
+ghost use Rattle.guard_form.specs.Guarded.{call_guarded, ending, noted, own_block, raised};
 ghost use Rattle.guard_form.specs.Pieces.{call_to};
+ghost use Rattle.flow_rewrite.specs.Begun.{call_begun, lead_of, sought_begun};
 ghost use Rattle.flow_rewrite.specs.Putting.{Puts};
 ghost use Rattle.flow_rewrite.specs.Raising.{Raisable};
 ghost use Rattle.flow_rewrite.specs.Emitting.{indices};
 ghost use Rattle.flow_rewrite.specs.Exits.{exit_of, LabelBelow};
 ghost use Rattle.flow_rewrite.specs.UnitView.{callee_of};
 
-use crate::exits::ExitTo;
-use crate::guards::{Guards, put_guarded};
+use crate::exits::{ExitTo, Spot};
+use crate::guards::{Guards, lead_or_none, put_begun};
 use crate::labels::{put_raised, raised};
 use crate::pieces::Target;
 use crate::put::{put_index, put_noted, put_slots, put_test, put_to};
@@ -31,32 +32,38 @@ fn put_target(out: &mut Vec<Instr>, target: Target) -> Result<(), AllocError>
     Ok(())
 }
 
-/// Puts the search of a numbered call: in state 0 the piece in front of it, its labels raised by so much, else out by a
-/// label where the index isn't the call's.
-fn put_search(
-    guards: &Guards,
-    out: &mut Vec<Instr>,
+/// How a numbered call is sought: the label by which a run leaves whose index isn't the call's, by how much labels of the piece in front
+/// are raised, and the call's number.
+#[derive(Clone, Copy)]
+struct Search {
     label: u32,
     by: u32,
     number: u32,
+}
+
+/// Puts the search of a numbered call: in state 0 the piece in front of it, else the lead, and out by the label where the index isn't
+/// the call's.
+fn put_search(
+    guards: &Guards,
+    out: &mut Vec<Instr>,
+    lead: Option<Vec<Instr>>,
+    search: Search,
     piece: &[Instr],
 ) -> Result<(), AllocError>
-    requires { Raisable 0 by (code piece.now) }
-    ensures { OnOk result (Puts out.old.items out.new.items (sought (indices guards.now) label by number (code piece.now))) }
+    requires { Raisable 0 search.by (code piece.now) }
+    ensures { OnOk result (Puts out.old.items out.new.items (sought_begun (indices guards.now) (lead_of lead) search.label search.by search.number (code piece.now))) }
 {
-    let mut other = Vec::new(guards.alloc);
-    put_index(&mut other, guards.index, number, NumOp::I32Ne)?;
-    other.push(Instr::BrIf(label))?;
-    let inside = raised(guards.alloc, 0, by, piece)?;
+    let mut other = lead_or_none(guards.alloc, lead);
+    put_index(&mut other, guards.index, search.number, NumOp::I32Ne)?;
+    other.push(Instr::BrIf(search.label))?;
+    let inside = raised(guards.alloc, 0, search.by, piece)?;
     put_test(out, guards.state, None, other, inside)?;
     Ok(())
 }
 
-/// A numbered call as it is put: its number, the locals that it takes, what it goes to, the local of its result, and the
-/// piece behind it.
+/// A numbered call as it is put: the locals that it takes, what it goes to, the local of its result, and the piece behind it.
 #[derive(Clone, Copy)]
 pub(crate) struct NumberedCall<'a> {
-    pub number: u32,
     pub slots: &'a [u32],
     pub target: Target,
     pub to: Option<u32>,
@@ -70,12 +77,13 @@ fn put_called(
     out: &mut Vec<Instr>,
     label: u32,
     by: u32,
+    number: u32,
     call: NumberedCall<'_>,
 ) -> Result<(), AllocError>
     requires { Raisable 0 by (code call.behind.now) }
-    ensures { OnOk result (code out.new.items ≡ onto out.old.items (slots_got call.entry.slots.now
-        (plain (call_to (callee_of call.entry.target)) (noted (indices guards.now) label call.entry.number
-        (set_to call.entry.to (raised 0 by (code call.entry.behind.now))))))) }
+    ensures { OnOk result (Puts out.old.items out.new.items (λ c. slots_got call.entry.slots.now
+        (plain (call_to (callee_of call.entry.target)) (noted (indices guards.now) label number
+        (set_to call.entry.to (followed_by (raised 0 by (code call.entry.behind.now)) c)))))) }
 {
     put_slots(out, call.slots)?;
     put_target(out, call.target)?;
@@ -84,7 +92,7 @@ fn put_called(
         guards.one_call,
         guards.state,
         guards.index,
-        call.number,
+        number,
         label,
     )?;
     put_to(out, call.to)?;
@@ -92,42 +100,52 @@ fn put_called(
     Ok(())
 }
 
-/// Puts a numbered call inside so many constructs, with the piece in front of it and that behind it. It has a block of its
-/// own where runs go to the end of that; else it is the last thing that is put.
+/// Puts a numbered call with this exit, with the piece in front of it and that behind it. It has a block of its own where runs go to the
+/// end of that; else what ends its sequence comes next. Where it is the first of a function, the first test of the state has the lead.
 #[inline(never)]
 pub(crate) fn put_call(
     guards: &Guards,
     out: &mut Vec<Instr>,
-    exit: ExitTo,
-    depth: u32,
+    lead: Option<Vec<Instr>>,
+    spot: Spot,
     piece: &[Instr],
     call: NumberedCall<'_>,
 ) -> Result<(), AllocError>
-    requires depth { depth < 2 ^ 31 }
-    requires label { LabelBelow (2 ^ 31) (exit_of exit) }
+    requires depth { spot.depth < 2 ^ 31 }
+    requires label { LabelBelow (2 ^ 31) (exit_of spot.exit) }
     requires piece { Raisable 0 2 (code piece.now) }
     requires behind { Raisable 0 2 (code call.behind.now) }
-    ensures { OnOk result ((next : Code) → (own_block (exit_of exit) false ≡ false → next ≡ done)
-        → onto out.new.items next ≡ onto out.old.items (call_front (indices guards.now) (exit_of exit) false call.entry.number (code piece.now)
-        (λ own. call_guarded (indices guards.now) own depth call.entry.number call.entry.slots.now (callee_of call.entry.target) call.entry.to
+    ensures { OnOk result ((next : Code) → (own_block (exit_of spot.exit) false ≡ false → next ≡ ending (exit_of spot.exit))
+        → onto out.new.items next ≡ onto out.old.items (call_begun (indices guards.now) (lead_of lead) (exit_of spot.exit) false spot.number (code piece.now)
+        (λ own. call_guarded (indices guards.now) (exit_of spot.exit) own spot.depth spot.number call.entry.slots.now (callee_of call.entry.target) call.entry.to
         (code call.entry.behind.now)) next)) }
 {
-    match exit {
-        ExitTo::Label(label) => {
-            put_search(guards, out, label + 1, 1, call.number, piece)?;
-            put_called(guards, out, depth, 0, call)?;
+    match spot.exit {
+        ExitTo::End => {
+            let search = Search {
+                label: 1,
+                by: 2,
+                number: spot.number,
+            };
+            let mut body = Vec::new(guards.alloc);
+            put_search(guards, &mut body, lead, search, piece)?;
+            put_called(guards, &mut body, spot.depth + 1, 1, spot.number, call)?;
+            out.push(Instr::Block { result: None, body })?;
             Ok(())
         }
-        ExitTo::Nowhere => {
-            put_guarded(guards, out, piece)?;
-            put_called(guards, out, depth, 0, call)?;
+        ExitTo::Label(label) => {
+            let search = Search {
+                label: label + 1,
+                by: 1,
+                number: spot.number,
+            };
+            put_search(guards, out, lead, search, piece)?;
+            put_called(guards, out, spot.depth, 0, spot.number, call)?;
             Ok(())
         }
         _ => {
-            let mut body = Vec::new(guards.alloc);
-            put_search(guards, &mut body, 1, 2, call.number, piece)?;
-            put_called(guards, &mut body, depth + 1, 1, call)?;
-            out.push(Instr::Block { result: None, body })?;
+            put_begun(guards, out, lead, piece)?;
+            put_called(guards, out, spot.depth, 0, spot.number, call)?;
             Ok(())
         }
     }

@@ -7,10 +7,10 @@ ghost use Rattle.guard_form.specs.Pieces.{got_any, numbers_in};
 ghost use Rattle.flow_rewrite.specs.Putting.{Puts};
 ghost use Rattle.flow_rewrite.specs.Raising.{Raisable};
 ghost use Rattle.flow_rewrite.specs.Emitting.{indices};
-ghost use Rattle.flow_rewrite.specs.Fronts.{condition_code};
+ghost use Rattle.flow_rewrite.specs.Begun.{condition_code, lead_of, led};
 ghost use Rattle.flow_rewrite.specs.UnitView.{units_of};
 
-use crate::guards::Guards;
+use crate::guards::{Guards, lead_or_none};
 use crate::labels::raised;
 use crate::pieces::Unit;
 use crate::put::{put_index, put_operand, put_test};
@@ -26,12 +26,16 @@ pub(crate) struct Arms<'a> {
     pub else_number: u32,
 }
 
-/// Which arm is gone into in a state that isn't 0.
-fn choose(guards: &Guards, arms: Arms<'_>) -> Result<Vec<Instr>, AllocError>
+/// Which arm is gone into in a state that isn't 0, behind the lead.
+fn choose(
+    guards: &Guards,
+    lead: Option<Vec<Instr>>,
+    arms: Arms<'_>,
+) -> Result<Vec<Instr>, AllocError>
     ensures { IfOk result (λ v. (first : ℕ) → arms.entry.else_number ≡ first + numbers_in (units_of arms.entry.then_units.now)
-        → code v.items ≡ choice (indices guards.now) first (units_of arms.entry.then_units.now) (units_of arms.entry.else_units.now)) }
+        → code v.items ≡ led (lead_of lead) (choice (indices guards.now) first (units_of arms.entry.then_units.now) (units_of arms.entry.else_units.now))) }
 {
-    let mut out = Vec::new(guards.alloc);
+    let mut out = lead_or_none(guards.alloc, lead);
     if arms.else_units.is_empty() {
         out.push(Instr::Const(Value::I32(1)))?;
         return Ok(out);
@@ -57,22 +61,23 @@ fn put_any(out: &mut Vec<Instr>, cond: Option<Operand>) -> Result<(), AllocError
     }
 }
 
-/// Puts the condition of an `if` behind the piece in front of it, or in a state that isn't 0 the choice of the arm,
+/// Puts the condition of an `if` behind the piece in front of it, or in a state that isn't 0 the choice of the arm behind the lead,
 /// whatever the number of the then arm's first call.
 #[inline(never)]
 pub(crate) fn put_condition(
     guards: &Guards,
     out: &mut Vec<Instr>,
+    lead: Option<Vec<Instr>>,
     piece: &[Instr],
     cond: Option<Operand>,
     arms: Arms<'_>,
 ) -> Result<(), AllocError>
     requires { Raisable 0 2 (code piece.now) }
     ensures { OnOk result ((first : ℕ) → arms.entry.else_number ≡ first + numbers_in (units_of arms.entry.then_units.now)
-        → Puts out.old.items out.new.items (condition_code (indices guards.now) first (code piece.now) cond
+        → Puts out.old.items out.new.items (condition_code (indices guards.now) (lead_of lead) first (code piece.now) cond
         (units_of arms.entry.then_units.now) (units_of arms.entry.else_units.now))) }
 {
-    let sought = choose(guards, arms)?;
+    let sought = choose(guards, lead, arms)?;
     let mut inside = raised(guards.alloc, 0, 1, piece)?;
     put_any(&mut inside, cond)?;
     put_test(out, guards.state, Some(ValType::I32), sought, inside)?;

@@ -4,7 +4,9 @@ ghost use Rattle.std.specs.Prelude.{◌≡◌, ◌≤◌, ◌<◌, ◌^◌, ◌+
 ghost use Rattle.wa_types.specs.Leaves.{is_leaf};
 ghost use Rattle.wa_types.specs.Syntax.{Code, done};
 ghost use Rattle.wa_types.specs.View.{code, in_front, onto};
+ghost use Rattle.run_theory.specs.Flat.{followed_by};
 ghost use Rattle.guard_form.specs.Guarded.{raise, raised};
+ghost use Rattle.flow_rewrite.specs.Putting.{Puts};
 ghost use Rattle.flow_rewrite.specs.Raising.{PutsRaised, Raisable};
 
 use crate::put::{put_block, put_if, put_loop};
@@ -142,7 +144,7 @@ fn raised_leaf(alloc: Global, inside: u32, by: u32, instr: &Instr) -> Result<Ins
     }
 }
 
-/// Puts code with each label that leaves it raised by so much, as the last thing behind what stands there.
+/// Puts code with each label that leaves it raised by so much.
 #[inline(never)]
 pub fn put_raised(
     alloc: Global,
@@ -151,7 +153,7 @@ pub fn put_raised(
     body: &[Instr],
 ) -> Result<(), AllocError>
     requires { Raisable 0 by (code body.now) }
-    ensures { OnOk result (code out.new.items ≡ onto out.old.items (raised 0 by (code body.now))) }
+    ensures { OnOk result (Puts out.old.items out.new.items (followed_by (raised 0 by (code body.now)))) }
 {
     raise_onto(alloc, 0, by, body, out)
 }

@@ -1,5 +1,12 @@
 //! A body in pieces and units, as data.
 
+ghost use Rattle.std.specs.Prelude.{◌≡◌, [], IfOk};
+ghost use Rattle.wa_types.specs.View.{code};
+ghost use Rattle.run_theory.specs.Flat.{result_got};
+ghost use Rattle.guard_form.specs.Guarded.{block_unit};
+ghost use Rattle.flow_rewrite.specs.UnitView.{units_of};
+
+use std::alloc::{AllocError, Global};
 use wa_model::Operand;
 use wa_types::Instr;
 
@@ -48,4 +55,38 @@ pub enum Unit {
 pub struct Pieces {
     pub first: Vec<Instr>,
     pub units: Vec<Unit>,
+}
+
+/// What gets a local, where one is told.
+fn got_result(alloc: Global, from: Option<u32>) -> Result<Vec<Instr>, AllocError>
+    ensures { IfOk result (λ v. code v.items ≡ result_got from) }
+{
+    let mut out = Vec::new(alloc);
+    match from {
+        None => Ok(out),
+        Some(x) => {
+            out.push(Instr::LocalGet(x))?;
+            Ok(out)
+        }
+    }
+}
+
+/// The pieces and units in a block of their own, the only unit, and behind it what gets the result from this local.
+pub fn in_own_block(alloc: Global, pieces: Pieces, from: Option<u32>) -> Result<Pieces, AllocError>
+    ensures first { IfOk result (λ p. p.first.items ≡ []) }
+    ensures units { IfOk result (λ p. units_of p.units.items ≡ block_unit (code pieces.first.items) (units_of pieces.units.items) from) }
+{
+    let Pieces { first, units } = pieces;
+    let behind = got_result(alloc, from)?;
+    let block = Unit::Block {
+        first,
+        body: units,
+        behind,
+    };
+    let mut outer = Vec::new(alloc);
+    outer.push(block)?;
+    Ok(Pieces {
+        first: Vec::new(alloc),
+        units: outer,
+    })
 }

@@ -1,10 +1,11 @@
 //! The guarded code of pieces and units.
 
-ghost use Rattle.std.specs.Prelude.{◌≡◌, ◌<◌, ◌^◌, [], IfOk, OnOk};
+ghost use Rattle.std.specs.Prelude.{◌≡◌, ◌<◌, ◌^◌, [], None, IfOk, OnOk};
 ghost use Rattle.wa_types.specs.View.{code, onto};
 ghost use Rattle.run_theory.specs.Flat.{followed_by};
 ghost use Rattle.guard_form.specs.Guarded.{guarded_body, last_piece};
 ghost use Rattle.guard_form.specs.Pieces.{flat_units, no_unit, numbers_in};
+ghost use Rattle.flow_rewrite.specs.Begun.{last_begun, lead_of};
 ghost use Rattle.flow_rewrite.specs.Raising.{Raisable};
 ghost use Rattle.flow_rewrite.specs.Emitting.{indices};
 ghost use Rattle.flow_rewrite.specs.Exits.{exit_of};
@@ -13,22 +14,13 @@ ghost use Rattle.flow_rewrite.specs.UnitView.{unit_in_front, units_of};
 
 use crate::calls::{NumberedCall, put_call};
 use crate::conditions::{Arms, put_condition};
-use crate::exits::{ExitTo, at_call, inside_block, inside_loop, whole_exit};
-use crate::guards::{Guards, put_guarded};
+use crate::exits::{ExitTo, Spot, at_unit, inside_block, inside_loop};
+use crate::guards::{Guards, put_begun, put_guarded, put_in_front, put_restoring};
 use crate::labels::put_raised;
 use crate::pieces::{Pieces, Unit};
 use crate::put::{put_block, put_if, put_loop};
 use std::alloc::{AllocError, Global};
 use wa_types::{Instr, copy_body};
-
-/// Where a sequence stands: where runs go that have passed its calls, inside how many constructs it is, and the number of its first
-/// numbered call.
-#[derive(Clone, Copy)]
-pub(crate) struct Spot {
-    pub exit: ExitTo,
-    pub depth: u32,
-    pub number: u32,
-}
 
 /// The piece in front of what comes behind a unit.
 fn next_piece(unit: &Unit) -> &[Instr]
@@ -54,16 +46,42 @@ fn put_last(
     ensures { OnOk result (code out.new.items ≡ onto out.old.items (last_piece (indices guards.now) (exit_of exit) (code piece.now))) }
 {
     match exit {
-        ExitTo::Label(_) => {
-            put_raised(guards.alloc, out, 0, piece)?;
+        ExitTo::End => {
+            put_guarded(guards, out, piece)?;
             Ok(())
         }
-        ExitTo::Nowhere => {
+        ExitTo::FunctionEnd => {
             put_raised(guards.alloc, out, 0, piece)?;
+            out.push(Instr::Return)?;
             Ok(())
         }
         _ => {
-            put_guarded(guards, out, piece)?;
+            put_raised(guards.alloc, out, 0, piece)?;
+            Ok(())
+        }
+    }
+}
+
+/// Puts the same piece, where there are no units in front a lead too, in a test of the state for that alone.
+#[inline(never)]
+fn put_end(
+    guards: &Guards,
+    out: &mut Vec<Instr>,
+    lead: Option<Vec<Instr>>,
+    exit: ExitTo,
+    piece: &[Instr],
+) -> Result<(), AllocError>
+    requires { Raisable 0 2 (code piece.now) }
+    ensures { OnOk result (code out.new.items ≡ onto out.old.items (last_begun (indices guards.now) (lead_of lead) (exit_of exit) (code piece.now))) }
+{
+    match lead {
+        None => {
+            put_last(guards, out, exit, piece)?;
+            Ok(())
+        }
+        Some(restoring) => {
+            put_restoring(guards, out, restoring, &[])?;
+            put_last(guards, out, exit, piece)?;
             Ok(())
         }
     }
@@ -78,34 +96,36 @@ fn put_body(alloc: Global, out: &mut Vec<Instr>, body: &[Instr]) -> Result<(), A
     Ok(())
 }
 
-/// Puts the guarded code of a piece and units to none; the number of the next numbered call.
+/// Puts the guarded code of a piece and units to none, of which the first test of the state has the lead; the number of the next
+/// numbered call.
 #[cycle(write)]
 fn write_sequence(
     guards: &Guards,
     out: &mut Vec<Instr>,
     spot: Spot,
+    lead: Option<Vec<Instr>>,
     first: &[Instr],
     units: &[Unit],
 ) -> Result<u32, AllocError>
     requires empty { out.old.items ≡ [] }
     requires ready { Ready (exit_of spot.exit) spot.depth spot.number (code first.now) (units_of units.now) }
-    ensures { IfOk result (λ n. IsFront guards.now (exit_of spot.exit) spot.depth spot.number (code first.now) (units_of units.now) out.new.items n) }
+    ensures { IfOk result (λ n. IsFront guards.now (lead_of lead) (exit_of spot.exit) spot.depth spot.number (code first.now) (units_of units.now) out.new.items n) }
 {
+    let mut lead = lead;
     let mut piece = first;
     let mut next = spot.number;
     let mut left = units.len();
     for unit in units {
         left -= 1;
-        let more = left > 0;
         let here = Spot {
-            exit: spot.exit,
+            exit: at_unit(spot.exit, left > 0),
             depth: spot.depth,
             number: next,
         };
-        next = put_unit(guards, out, here, more, piece, unit)?;
+        next = put_unit(guards, out, here, lead.take(), piece, unit)?;
         piece = next_piece(unit);
     }
-    put_last(guards, out, spot.exit, piece)?;
+    put_end(guards, out, lead, spot.exit, piece)?;
     Ok(next)
 }
 
@@ -126,22 +146,22 @@ fn write_arm(
         put_body(guards.alloc, out, first)?;
         return Ok(spot.number);
     }
-    let next = write_sequence(guards, out, spot, first, units)?;
+    let next = write_sequence(guards, out, spot, None, first, units)?;
     Ok(next)
 }
 
-/// Puts a unit, with more behind it or none, and the piece in front of it; the number of the next numbered call.
+/// Puts a unit and the piece in front of it, where the first test of the state has the lead; the number of the next numbered call.
 #[cycle(write)]
 fn put_unit(
     guards: &Guards,
     out: &mut Vec<Instr>,
     spot: Spot,
-    more: bool,
+    lead: Option<Vec<Instr>>,
     piece: &[Instr],
     unit: &Unit,
 ) -> Result<u32, AllocError>
     requires { Ready (exit_of spot.exit) spot.depth spot.number (code piece.now) (unit_in_front unit.now no_unit) }
-    ensures { IfOk result (λ j. Stepped guards.now (exit_of spot.exit) more spot.depth spot.number out.old.items out.new.items piece.now unit.now j) }
+    ensures { IfOk result (λ j. Stepped guards.now (lead_of lead) (exit_of spot.exit) spot.depth spot.number out.old.items out.new.items piece.now unit.now j) }
 {
     match unit {
         Unit::Call {
@@ -150,40 +170,38 @@ fn put_unit(
             to,
             behind,
         } => {
-            let exit = at_call(spot.exit, more);
             let call = NumberedCall {
-                number: spot.number,
                 slots,
                 target: *target,
                 to: *to,
                 behind,
             };
-            put_call(guards, out, exit, spot.depth, piece, call)?;
+            put_call(guards, out, lead, spot, piece, call)?;
             Ok(spot.number + 1)
         }
         Unit::Block { first, body, .. } => {
-            put_guarded(guards, out, piece)?;
-            let exit = inside_block(spot.exit, more);
+            let lead = put_in_front(guards, out, lead, piece)?;
+            let exit = inside_block(spot.exit);
             let inside = Spot {
                 exit,
                 depth: spot.depth + 1,
                 number: spot.number,
             };
             let mut inner = Vec::new(guards.alloc);
-            let next = write_sequence(guards, &mut inner, inside, first, body)?;
+            let next = write_sequence(guards, &mut inner, inside, lead, first, body)?;
             put_block(out, None, inner)?;
             Ok(next)
         }
         Unit::Loop { first, body, .. } => {
-            put_guarded(guards, out, piece)?;
-            let exit = inside_loop(spot.exit, more);
+            put_begun(guards, out, lead, piece)?;
+            let exit = inside_loop(spot.exit);
             let inside = Spot {
                 exit,
                 depth: spot.depth + 1,
                 number: spot.number,
             };
             let mut inner = Vec::new(guards.alloc);
-            let next = write_sequence(guards, &mut inner, inside, first, body)?;
+            let next = write_sequence(guards, &mut inner, inside, None, first, body)?;
             put_loop(out, None, inner)?;
             Ok(next)
         }
@@ -195,7 +213,7 @@ fn put_unit(
             else_units,
             ..
         } => {
-            let exit = inside_block(spot.exit, more);
+            let exit = inside_block(spot.exit);
             let inside = Spot {
                 exit,
                 depth: spot.depth + 1,
@@ -215,31 +233,38 @@ fn put_unit(
                 else_units,
                 else_number: middle,
             };
-            put_condition(guards, out, piece, *cond, arms)?;
+            put_condition(guards, out, lead, piece, *cond, arms)?;
             put_if(out, None, then_arm, else_arm)?;
             Ok(next)
         }
     }
 }
 
-/// The guarded code of a whole body, of which runs leave by labels that stand around anyway, or each call has a block of its own. The
-/// labels of its flat code can be raised, and it has fewer than 2^32 numbered calls.
+/// The guarded code of a function's sequence, the first test of the state in which restores the frame by these instructions: in state 0
+/// it returns, else it is left by the label of the block that it stands in. The labels of its flat code can be raised, and it has fewer
+/// than 2^32 numbered calls.
 pub fn guarded_pieces(
     guards: &Guards,
-    exits: bool,
+    restoring: Vec<Instr>,
     pieces: &Pieces,
 ) -> Result<Vec<Instr>, AllocError>
     requires labels { Raisable 0 2 (followed_by (code pieces.now.first.items) (flat_units (units_of pieces.now.units.items))) }
     requires few { numbers_in (units_of pieces.now.units.items) < 2 ^ 32 }
-    ensures { IfOk result (λ v. code v.items ≡ guarded_body (indices guards.now) exits (code pieces.now.first.items) (units_of pieces.now.units.items)) }
+    ensures { IfOk result (λ v. code v.items ≡ guarded_body (indices guards.now) (followed_by (code restoring.items)) (code pieces.now.first.items) (units_of pieces.now.units.items)) }
 {
-    let exit = whole_exit(exits);
     let spot = Spot {
-        exit,
+        exit: ExitTo::FunctionEnd,
         depth: 0,
         number: 0,
     };
     let mut out = Vec::new(guards.alloc);
-    write_sequence(guards, &mut out, spot, &pieces.first, &pieces.units)?;
+    write_sequence(
+        guards,
+        &mut out,
+        spot,
+        Some(restoring),
+        &pieces.first,
+        &pieces.units,
+    )?;
     Ok(out)
 }

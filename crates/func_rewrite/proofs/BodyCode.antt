@@ -4,37 +4,41 @@ use Rattle.std.proofs.lemmas.List.{append-nil, map-append, take_more, take_all}
 use Rattle.std.specs.declared.vec.Vec.{Vec}
 use Rattle.std.specs.declared.alloc.Global.{Global}
 use Rattle.wa_types.specs.declared.instrs.Instr.{Instr}
-use Rattle.wa_types.specs.declared.instrs.Instr.TheVariants.{Block, LocalGet}
-use Rattle.wa_types.specs.Syntax.{a_block, Code, done, nest}
+use Rattle.wa_types.specs.declared.instrs.Instr.TheVariants.{Block, Const}
+use Rattle.wa_types.specs.Syntax.{a_block, basic, const, Code, done, nest, plain}
 use Rattle.wa_types.specs.View.{code, onto, in_front}
-use Rattle.wa_types.proofs.ViewLemmas.{in_block, onto_append, onto_done}
+use Rattle.wa_types.proofs.ViewLemmas.{in_block, onto_append, onto_done, onto_none}
 use Rattle.wa_types.specs.declared.syntax.Run.{Run}
 use Rattle.wa_types.specs.declared.values.ValType.{ValType}
-use Rattle.run_theory.specs.Flat.{result_got}
+use Rattle.wa_types.specs.declared.values.Value.{Value}
+use Rattle.wa_model.specs.Step.{zero_of}
+use Rattle.run_theory.specs.Flat.{followed_by}
 use Rattle.run_theory.specs.FlatFits.{one_run}
-use Rattle.local_spill.proofs.PutLemmas.{get_is}
-use Rattle.local_spill.specs.Putting.{Puts}
-use Rattle.func_rewrite.specs.Bodies.{body_got}
+use Rattle.local_spill.proofs.PutLemmas.{const_is}
+use Rattle.frame_laws.specs.Function.{value_code}
+use Rattle.flow_rewrite.proofs.PieceLemmas.{onto_then}
 
 onto_both : (xs ys : List Instr) (rest : Code) → onto (xs ++ ys) rest ≡ onto xs (onto ys rest)
 unfolding onto
 onto_both [] ys rest = refl
 onto_both (x ∷ xs) ys rest = ap (in_front x) (onto_both xs ys rest)
 
-pub got_is : (r : Option ℕ) → body_got r done ≡ result_got r
-got_is None = refl
-got_is (Some x) = refl
+-- a value put, where there is a result
+pub value_put : (old new : List Instr) (o : Option ValType) (t : ValType) (v : Value) → o ≡ Some t → v ≡ zero_of t → new ≡ old ++ Const v ∷ [] → code new ≡ onto old (value_code o)
+value_put old new o t v is z e =
+    ap code e ∙ sym (onto_done (old ++ Const v ∷ [])) ∙ onto_append old (Const v) done ∙ ap (onto old) (const_is v done ∙ ap (λ w. plain (basic (const w)) done) z)
+    ∙ ap (λ p. onto old (value_code p)) (sym is)
 
-pub body_is : (p b1 b2 b3 e : List Instr) (v : Vec Instr Global) (before after : Code → Code) (r : Option ℕ)
-    → ((rest : Code) → onto p rest ≡ before rest) → b1 ≡ p ++ Block None v ∷ [] → ((rest : Code) → onto e rest ≡ after rest) → b2 ≡ b1 ++ e → Puts b2 b3 (body_got r)
-    → code b3 ≡ before (nest a_block None (code v.items) (after (result_got r)))
-body_is p b1 b2 b3 e v before after r hp e1 he e2 hr =
-    sym (onto_done b3) ∙ hr done ∙ ap (λ xs. onto xs (body_got r done)) e2 ∙ onto_both b1 e (body_got r done) ∙ ap (onto b1) (he (body_got r done) ∙ ap after (got_is r))
-    ∙ ap (λ xs. onto xs (after (result_got r))) e1 ∙ onto_append p (Block None v) (after (result_got r)) ∙ ap (onto p) (in_block None v (after (result_got r)))
-    ∙ hp (nest a_block None (code v.items) (after (result_got r)))
+pub value_none : (old : List Instr) (o : Option ValType) → o ≡ None → code old ≡ onto old (value_code o)
+value_none old o is = sym (onto_done old) ∙ ap (λ p. onto old (value_code p)) (sym is)
 
-pub result_put : (old new : List Instr) (o : Option ℕ) (x : ℕ) → o ≡ Some x → new ≡ old ++ LocalGet x ∷ [] → (rest : Code) → onto new rest ≡ onto old (body_got o rest)
-result_put old new o x is e rest = ap (λ xs. onto xs rest) e ∙ onto_append old (LocalGet x) rest ∙ ap (onto old) (get_is x rest ∙ sym (ap (λ p. body_got p rest) is))
+-- code in a block, and behind it what saves, and a value
+pub body_is : (b0 b1 b2 b3 e : List Instr) (v : Vec Instr Global) (t : Option ValType)
+    → b0 ≡ [] → b1 ≡ b0 ++ Block None v ∷ [] → b2 ≡ b1 ++ e → code b3 ≡ onto b2 (value_code t) → code b3 ≡ nest a_block None (code v.items) (followed_by (code e) (value_code t))
+body_is b0 b1 b2 b3 e v t e0 e1 e2 e3 =
+    let k : Code = followed_by (code e) (value_code t) in
+    e3 ∙ ap (λ xs. onto xs (value_code t)) e2 ∙ onto_both b1 e (value_code t) ∙ ap (onto b1) (onto_then e (value_code t))
+    ∙ ap (λ xs. onto xs k) e1 ∙ onto_append b0 (Block None v) k ∙ ap (λ xs. onto xs (in_front (Block None v) k)) e0 ∙ onto_none (in_front (Block None v) k) ∙ in_block None v k
 
 -- ---- runs
 

@@ -1,5 +1,5 @@
 -- The parts that are made from the sets are those of the policy `live`, and the function is as it is written with them.
-use Rattle.std.proofs.Common.{◌≡◌, ◌∙◌, ℕ, suc, ◌+◌, ◌<◌, List, [], ◌∷◌, ◌++◌, length, map, drop, Bool, refl, ap, subst, arith}
+use Rattle.std.proofs.Common.{◌≡◌, ◌∙◌, ℕ, suc, ◌+◌, ◌<◌, List, [], ◌∷◌, ◌++◌, length, map, drop, None, Bool, refl, ap, subst, arith}
 use Rattle.std.specs.Prelude.{slice_get}
 use Rattle.std.proofs.lemmas.Option.{slice_get_within}
 use Rattle.wa_types.specs.declared.syntax.Run.{Run}
@@ -7,16 +7,18 @@ use Rattle.wa_types.specs.declared.values.ValType.TheVariants.{I32, I64}
 use Rattle.wa_types.specs.Pausing.{Numbered, Settings}
 use Rattle.wa_types.specs.Runtime.{global_space}
 use Rattle.wa_types.specs.Sizes.{StrictSizeRule}
-use Rattle.wa_types.specs.Syntax.{Code, done, Func, Module}
+use Rattle.wa_types.specs.Syntax.{a_block, Code, done, Func, Module, nest}
 use Rattle.wa_types.specs.Validity.{Valid}
-use Rattle.run_theory.specs.Flat.{FlatFunc, result_got}
+use Rattle.run_theory.specs.Flat.{FlatFunc, followed_by}
 use Rattle.run_theory.specs.FlatFits.{one_run}
 use Rattle.run_theory.specs.FlatView.{flat_func_of}
 use Rattle.flat_laws.specs.Flatten.{flattened}
 use Rattle.flatten.specs.declared.whole.Flattened.{Flattened}
 use Rattle.local_spill.specs.Ids.{ids_behind}
 use Rattle.local_spill.specs.declared.RuntimeIds.{RuntimeIds}
-use Rattle.guard_form.specs.Guarded.{guard_indices, guarded_body, function_body}
+use Rattle.frame_laws.specs.Function.{result_type, value_code}
+use Rattle.guard_form.specs.Guarded.{block_unit, guard_indices, guarded_body}
+use Rattle.guard_form.specs.Pieces.{Units}
 use Rattle.call_frames.specs.FrameParts.{restoring_by_call, saving_by_call}
 use Rattle.call_frames.specs.PlainFrames.{SavedParts, frames_of}
 use Rattle.slim_laws.specs.SlimModule.{Pieces, SlimPieces}
@@ -66,11 +68,14 @@ module _ (m : Module) (s : Settings) (which : List Bool) (f : Func) (v : Flatten
     size = (let a = cheap.size in let e = total_saved m s which f v valid h ns sets en live in omega (arith, a, e));
   }
 
-  abbrev whole : ℕ → Code → Code
-  whole g guarded = function_body g (restoring_by_call (frames_of told) done) (saving_by_call (frames_of told) done) (result_got (flattened m x f).result) guarded
+  abbrev units : Pieces → Units
+  units p = block_unit p.first p.units (flattened m x f).result
 
   abbrev front_of : Pieces → (state : ℕ) → Code
-  front_of p state = guarded_body (guard_indices state (length (flattened m x f).locals) p.exits p.units) p.exits p.first p.units
+  front_of p g = guarded_body (guard_indices g (length (flattened m x f).locals) p.exits (units p)) (followed_by (restoring_by_call (frames_of told) done)) done (units p)
+
+  abbrev whole : Code → Code
+  whole guarded = nest a_block None guarded (followed_by (saving_by_call (frames_of told) done) (value_code (result_type (flattened m x f).locals (flattened m x f).result)))
 
   pub live_is : (locals : List Run) (body : Code) → locals ≡ f.locals ++ map one_run (drop v.first_slot v.func.locals.items ++ I32 ∷ I32 ∷ I64 ∷ [])
       → IsSlimBody m ns ids.state x f (restoring_by_call (frames_of told) done) (saving_by_call (frames_of told) done) body → IsLiveWritten m s which x f (mk_func f.sort locals body)
@@ -82,5 +87,5 @@ module _ (m : Module) (s : Settings) (which : List Bool) (f : Func) (v : Flatten
         parts = told;
         live = owed;
         is = func_is (live_written m s which x f p told) f.sort locals body refl (el ∙ runs_same m s which f v valid sizes h v.first_slot refl)
-            (b.is ∙ ap (whole ids.state) b.slim.code ∙ ap (λ (i : RuntimeIds). whole i.state (front_of p i.state)) ei);
+            (b.is ∙ ap whole b.slim.code ∙ ap (λ (i : RuntimeIds). whole (front_of p i.state)) ei);
       }

@@ -1,5 +1,5 @@
 -- A function as it is written is the definition's, part by part.
-use Rattle.std.proofs.Common.{◌≡◌, ◌∙◌, ℕ, suc, ◌+◌, ◌-◌, ◌^◌, ◌<◌, ◌≤◌, List, [], ◌∷◌, ◌++◌, length, length-append, map, filter, take, drop, Bool, All, refl, sym, ap, subst, arith}
+use Rattle.std.proofs.Common.{◌≡◌, ◌∙◌, ℕ, suc, ◌+◌, ◌-◌, ◌^◌, ◌<◌, ◌≤◌, List, [], ◌∷◌, ◌++◌, length, length-append, map, filter, take, drop, None, Bool, All, refl, sym, ap, subst, arith}
 use Rattle.std.specs.Prelude.{nat_lt, ◌||◌}
 use Rattle.std.proofs.lemmas.List.{append_assoc, length-map}
 use Rattle.std.proofs.Math.Seq.{take-append_seam, drop-append_seam}
@@ -11,9 +11,9 @@ use Rattle.wa_types.specs.Modules.{locals_of}
 use Rattle.wa_types.specs.Pausing.{save_all, calls_of, calls_in, Listed, Settings, places_from, Numbered}
 use Rattle.wa_types.specs.Runtime.{global_space}
 use Rattle.wa_types.specs.Sizes.{StrictSizeRule}
-use Rattle.wa_types.specs.Syntax.{Code, done, Func, Module}
+use Rattle.wa_types.specs.Syntax.{a_block, Code, done, Func, Module, nest}
 use Rattle.wa_types.specs.Validity.{Valid}
-use Rattle.run_theory.specs.Flat.{FlatFunc, code_of, result_got}
+use Rattle.run_theory.specs.Flat.{FlatFunc, code_of, followed_by}
 use Rattle.run_theory.specs.FlatFits.{FlatFits, one_run}
 use Rattle.run_theory.specs.FlatView.{flat_func_of}
 use Rattle.flat_laws.proofs.Calls.{calls_stay}
@@ -28,8 +28,9 @@ use Rattle.local_spill.specs.declared.RuntimeIds.{RuntimeIds}
 use Rattle.local_spill.specs.declared.frames.Layout.{Layout as LayoutValue}
 use Rattle.local_spill.specs.declared.frames.Place.{Place}
 use Rattle.frame_laws.specs.Layout.{FrameField, Layout as FrameLayout, fields_size, placed, spilled_by}
-use Rattle.guard_form.specs.Guarded.{guard_indices, guarded_body, function_body}
-use Rattle.guard_form.specs.Pieces.{call_total}
+use Rattle.frame_laws.specs.Function.{result_type, value_code}
+use Rattle.guard_form.specs.Guarded.{block_unit, guard_indices, guarded_body}
+use Rattle.guard_form.specs.Pieces.{Units, call_total}
 use Rattle.flow_rewrite.specs.Numbering.{callees, gets_number}
 use Rattle.emitted_form.specs.Emitted.{IsAllWritten, holds_operand, is_kept, field_where, frame_layout, written_func}
 use Rattle.slim_laws.specs.SlimModule.{Pieces, SlimPieces}
@@ -154,11 +155,17 @@ module _ (m : Module) (s : Settings) (which : List Bool) (f : Func) (v : Flatten
         ∙ ap (λ (g : FlatFunc). nat_lt y (length (locals_of m f)) || holds_operand g ns y) h.flat
         ∙ ap (λ ks. nat_lt y (length (locals_of m f)) || holds_operand (flattened m x f) ks y) en
 
-    abbrev whole : ℕ → SpillIndices → ℕ → List Place → Code → Code
-    whole g i k ps guarded = function_body g (restoring i k ps done) (saving i k ps done) (result_got (flattened m x f).result) guarded
+    abbrev units : Pieces → Units
+    units p = block_unit p.first p.units (flattened m x f).result
 
-    abbrev front_of : Pieces → (state : ℕ) → Code
-    front_of p state = guarded_body (guard_indices state (length (flattened m x f).locals) p.exits p.units) p.exits p.first p.units
+    abbrev front_of : Pieces → (state : ℕ) → SpillIndices → ℕ → List Place → Code
+    front_of p g i k ps = guarded_body (guard_indices g (length (flattened m x f).locals) p.exits (units p)) (followed_by (restoring i k ps done)) done (units p)
+
+    abbrev whole : SpillIndices → ℕ → List Place → Code → Code
+    whole i k ps guarded = nest a_block None guarded (followed_by (saving i k ps done) (value_code (result_type (flattened m x f).locals (flattened m x f).result)))
+
+    abbrev body_with : Pieces → (state : ℕ) → SpillIndices → ℕ → List Place → Code
+    body_with p g i k ps = whole i k ps (front_of p g i k ps)
 
     abbrev layout : FrameLayout
     layout = frame_layout m s which x f
@@ -181,11 +188,11 @@ module _ (m : Module) (s : Settings) (which : List Bool) (f : Func) (v : Flatten
         ap (λ k. spill_indices k (ids_behind m)) (ap (λ (q : FlatFunc). length q.locals) h.flat) ∙ (λ i. record { address = one i; index = n; scratch = two i }) in
         let code =
         b.is
-        ∙ ap (whole ids.state (spill_indices (length v.func.locals.items) ids) (size - 4) chosen) b.slim.code
-        ∙ ap (λ (j : RuntimeIds). whole j.state (spill_indices (length v.func.locals.items) j) (size - 4) chosen (front_of p j.state)) ei
-        ∙ ap (λ j. whole g j (size - 4) chosen (front_of p g)) indices
-        ∙ ap (λ k. whole g (spilled_by layout) k chosen (front_of p g)) bytes
-        ∙ ap (λ ps. whole g (spilled_by layout) (fields_size fields) ps (front_of p g)) spots in
+        ∙ ap (whole (spill_indices (length v.func.locals.items) ids) (size - 4) chosen) b.slim.code
+        ∙ ap (λ (j : RuntimeIds). body_with p j.state (spill_indices (length v.func.locals.items) j) (size - 4) chosen) ei
+        ∙ ap (λ j. body_with p g j (size - 4) chosen) indices
+        ∙ ap (λ k. body_with p g (spilled_by layout) k chosen) bytes
+        ∙ ap (body_with p g (spilled_by layout) (fields_size fields)) spots in
         record {
           pieces = p;
           slim = subst (λ ks. SlimPieces m ks x f p) en b.slim.slim;

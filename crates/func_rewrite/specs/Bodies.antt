@@ -1,15 +1,10 @@
 -- The body of a written function.
-use Rattle.std.specs.Prelude.{◌≡◌, ℕ, List, Option, Some, None}
-use Rattle.wa_types.specs.Syntax.{a_block, local_get, nest, Code, Func, Module, plain}
+use Rattle.std.specs.Prelude.{◌≡◌, ℕ, List, None}
+use Rattle.wa_types.specs.Syntax.{a_block, nest, Code, Func, Module}
 use Rattle.run_theory.specs.Flat.{followed_by}
 use Rattle.frame_laws.specs.Function.{result_type, value_code}
 use Rattle.flat_laws.specs.Flatten.{flattened}
 use Rattle.slim_rewrite.specs.Told.{GuardedSlim}
-
--- what gets a function's result
-abbrev pub body_got : Option ℕ → Code → Code
-body_got None next = next
-body_got (Some x) next = plain (local_get x) next
 
 -- Guarded code of slim pieces of a function with the code that restores its frame, in a block, and behind it the code that saves its frame and
 -- gives a value for the result.

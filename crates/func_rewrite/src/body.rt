@@ -1,77 +1,96 @@
-//! The body of a written function: the code that restores its frame, its guarded pieces, the code that saves its frame.
+//! The body of a written function: its guarded pieces in a block, where the first test of the state restores its frame, and behind
+//! the block the code that saves it.
 
-ghost use Rattle.std.specs.Prelude.{◌≡◌, ◌≤◌, ◌<◌, ◌^◌, ◌-◌, length, IfOk, OnOk};
-ghost use Rattle.wa_types.specs.Syntax.{Code, Func as PlainFunc, Module as PlainModule, done};
+ghost use Rattle.std.specs.Prelude.{◌≡◌, ◌≤◌, ◌<◌, ◌^◌, ◌-◌, length, None, IfOk, OnOk};
+ghost use Rattle.wa_types.specs.Syntax.{Func as PlainFunc, Module as PlainModule, a_block, done, nest};
 ghost use Rattle.wa_types.specs.View.{code, onto};
+ghost use Rattle.wa_model.specs.Step.{zero_of};
+ghost use Rattle.run_theory.specs.Flat.{followed_by};
 ghost use Rattle.run_theory.specs.FlatFits.{FlatFits};
 ghost use Rattle.run_theory.specs.FlatView.{flat_func_of};
-ghost use Rattle.local_spill.specs.Putting.{Puts};
-ghost use Rattle.local_spill.specs.Spilling.{restoring, saving, spill_indices, unless_normal};
+ghost use Rattle.local_spill.specs.Spilling.{restoring, saving, spill_indices};
+ghost use Rattle.frame_laws.specs.Function.{result_type, value_code};
 ghost use Rattle.guard_form.specs.Pieces.{call_total};
 ghost use Rattle.flow_rewrite.specs.Emitting.{Rises};
-ghost use Rattle.func_rewrite.specs.Bodies.{IsSlimBody, body_got};
+ghost use Rattle.func_rewrite.specs.Bodies.{IsSlimBody};
 ghost use Rattle.func_rewrite.specs.Frames.{IsFlattened};
 
 use flatten::Flattened;
-use local_spill::{Layout, RuntimeIds, epilogue, prologue};
+use local_spill::{Layout, RuntimeIds, restoring, saving};
 use slim_rewrite::guard_slim;
 use std::alloc::{AllocError, Global};
-use wa_types::Instr;
+use wa_types::{Instr, ValType, Value};
 
-/// Puts what gets the result, where there is one.
-fn put_result(out: &mut Vec<Instr>, given: Option<u32>) -> Result<(), AllocError>
-    ensures { OnOk result (Puts out.old.items out.new.items (body_got given)) }
+/// The type of the local that holds a result.
+fn result_type(locals: &[ValType], local: Option<u32>) -> Option<ValType>
+    ensures { result ≡ result_type locals.now local }
 {
-    if let Some(local) = given {
-        out.push(Instr::LocalGet(local))?;
+    locals.get(local? as usize).copied()
+}
+
+/// The zero of a type.
+fn zero_of(ty: ValType) -> Value
+    ensures { result ≡ zero_of ty }
+{
+    match ty {
+        ValType::I32 => Value::I32(0),
+        ValType::I64 => Value::I64(0),
+    }
+}
+
+/// Puts a value of this type, where there is one.
+fn put_value(out: &mut Vec<Instr>, ty: Option<ValType>) -> Result<(), AllocError>
+    ensures { OnOk result (code out.new.items ≡ onto out.old.items (value_code ty)) }
+{
+    if let Some(ty) = ty {
+        out.push(Instr::Const(zero_of(ty)))?;
     }
     Ok(())
 }
 
-/// Code that runs where the state isn't 0.
-pub fn unless_normal(alloc: Global, state: u32, arm: Vec<Instr>) -> Result<Vec<Instr>, AllocError>
-    ensures { IfOk result (λ v. (rest : Code) → onto v.items rest ≡ unless_normal state (code arm.items) rest) }
+/// Guarded pieces in a block, the end of which only a run that pauses comes to, and behind it the code that saves a frame, with a
+/// value of the result's type, which nothing reads.
+fn with_end(
+    alloc: Global,
+    guarded: Vec<Instr>,
+    saved: Vec<Instr>,
+    given: Option<ValType>,
+) -> Result<Vec<Instr>, AllocError>
+    ensures { IfOk result (λ v. code v.items ≡ nest a_block None (code guarded.items) (followed_by (code saved.items) (value_code given))) }
 {
-    let mut out = Vec::new(alloc);
-    out.push(Instr::GlobalGet(state))?;
-    out.push(Instr::If {
+    let mut body = Vec::new(alloc);
+    body.push(Instr::Block {
         result: None,
-        then_arm: arm,
-        else_arm: Vec::new(alloc),
+        body: guarded,
     })?;
-    Ok(out)
+    let mut behind = saved;
+    body.append(&mut behind)?;
+    put_value(&mut body, given)?;
+    Ok(body)
 }
 
-/// The body of a written function, whose numbered calls have these places, of slim pieces, between the code in front of it, which restores
-/// its frame where the state isn't 0, and the code behind it, which saves its frame there. The flat function loses its statements.
+/// The body of a written function, whose numbered calls have these places, of slim pieces, with the codes that restore and that save
+/// its frame. The flat function loses its statements.
 pub fn body_around(
     alloc: Global,
     flat: &mut Flattened,
     numbers: &[u32],
-    start: Vec<Instr>,
-    end: Vec<Instr>,
+    restored: Vec<Instr>,
+    saved: Vec<Instr>,
     state: u32,
 ) -> Result<Vec<Instr>, AllocError>
     requires fits { FlatFits (flat_func_of flat.old.func) }
     requires rises { Rises numbers.now }
     requires few { call_total (flat_func_of flat.old.func).body < 2 ^ 32 }
     requires slots { flat.old.first_slot ≤ flat.old.first_result }
-    ensures { IfOk result (λ v. (m : PlainModule) (f : PlainFunc) (r s : Code) → IsFlattened m f flat.old → ((rest : Code) → onto start.items rest ≡ unless_normal state r rest)
-        → ((rest : Code) → onto end.items rest ≡ unless_normal state s rest) → IsSlimBody m numbers.now state flat.old.func.func f r s (code v.items)) }
+    ensures { IfOk result (λ v. (m : PlainModule) (f : PlainFunc) → IsFlattened m f flat.old
+        → IsSlimBody m numbers.now state flat.old.func.func f (code restored.items) (code saved.items) (code v.items)) }
 {
-    let mut body = start;
-    let mut behind = end;
-    let given = flat.func.result;
+    let given = result_type(&flat.func.locals, flat.func.result);
     let low = flat.first_slot;
     let slots = (flat.first_result - low) as usize;
-    let guarded = guard_slim(alloc, &mut flat.func, numbers, state, low, slots)?;
-    body.push(Instr::Block {
-        result: None,
-        body: guarded,
-    })?;
-    body.append(&mut behind)?;
-    put_result(&mut body, given)?;
-    Ok(body)
+    let guarded = guard_slim(alloc, &mut flat.func, numbers, state, low, slots, restored)?;
+    with_end(alloc, guarded, saved, given)
 }
 
 /// The body of the written function, whose numbered calls have these places and whose frame keeps these locals.
@@ -79,22 +98,20 @@ pub(crate) fn written_body(
     alloc: Global,
     flat: &mut Flattened,
     numbers: &[u32],
-    frame: Layout,
+    frame: &Layout,
     ids: &RuntimeIds,
 ) -> Result<Vec<Instr>, AllocError>
     requires fits { FlatFits (flat_func_of flat.old.func) }
     requires rises { Rises numbers.now }
     requires few { call_total (flat_func_of flat.old.func).body < 2 ^ 32 }
     requires slots { flat.old.first_slot ≤ flat.old.first_result }
-    requires size { 4 ≤ frame.size }
+    requires size { 4 ≤ frame.now.size }
     ensures { IfOk result (λ v. (m : PlainModule) (f : PlainFunc) → IsFlattened m f flat.old
-        → IsSlimBody m numbers.now ids.now.state flat.old.func.func f (restoring (spill_indices (length flat.old.func.locals.items) ids.now) (frame.size - 4) frame.places.items done)
-        (saving (spill_indices (length flat.old.func.locals.items) ids.now) (frame.size - 4) frame.places.items done) (code v.items)) }
+        → IsSlimBody m numbers.now ids.now.state flat.old.func.func f (restoring (spill_indices (length flat.old.func.locals.items) ids.now) (frame.now.size - 4) frame.now.places.items done)
+        (saving (spill_indices (length flat.old.func.locals.items) ids.now) (frame.now.size - 4) frame.now.places.items done) (code v.items)) }
 {
     let base = flat.func.locals.len() as u32;
-    let mut frames = Vec::new(alloc);
-    frames.push(frame)?;
-    let start = prologue(alloc, &frames, base, ids)?;
-    let end = epilogue(alloc, &frames, base, ids)?;
-    body_around(alloc, flat, numbers, start, end, ids.state)
+    let restored = restoring(alloc, frame, base, ids)?;
+    let saved = saving(alloc, frame, base, ids)?;
+    body_around(alloc, flat, numbers, restored, saved, ids.state)
 }

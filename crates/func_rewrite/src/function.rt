@@ -47,7 +47,7 @@ pub fn write_func(
     let saved = saved_places(alloc, &flat.func.locals, flat.first_result)?;
     let frame = chosen_frame(alloc, layout(alloc, 0, &saved)?, &kept)?;
     let locals = written_locals(alloc, &source.locals, &flat.func.locals, own)?;
-    let body = written_body(alloc, flat, &numbers, frame, pass.ids)?;
+    let body = written_body(alloc, flat, &numbers, &frame, pass.ids)?;
     Ok(Func {
         sort: source.sort,
         locals,

@@ -21,7 +21,7 @@ ghost use Rattle.call_frames.specs.Classes.{FewParts};
 ghost use Rattle.call_frames.specs.Views.{parts_view, told_frames};
 ghost use Rattle.func_rewrite.specs.Calls.{AreLiveCalls};
 
-use crate::body::{body_around, unless_normal};
+use crate::body::body_around;
 use crate::calls::{LiveCalls, live_calls};
 use crate::layouts::set_layouts;
 use crate::locals::written_locals;
@@ -52,10 +52,8 @@ fn live_body(
 {
     let base = flat.func.locals.len() as u32;
     let restored = restoring(alloc, parts, base, ids.address)?;
-    let start = unless_normal(alloc, ids.state, restored)?;
     let saved = saving(alloc, parts, base, ids.address)?;
-    let end = unless_normal(alloc, ids.state, saved)?;
-    body_around(alloc, flat, numbers, start, end, ids.state)
+    body_around(alloc, flat, numbers, restored, saved, ids.state)
 }
 
 /// The function as it is written, whose numbered calls keep these locals. The flat function loses its statements.

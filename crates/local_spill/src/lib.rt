@@ -1,10 +1,10 @@
 //! What a written module has that its original hasn't: the code that saves and restores a frame, and the runtime's parts.
 //!
-//! A frame has the function's locals in a row and behind them the number of the call at which the function waits (`layout`). The
-//! function begins with code that restores them where the state isn't 0 (`prologue`), and ends with code that saves them
-//! (`epilogue`); `specs/Spilling.antt` has both instruction by instruction. They go by the places that they are given, at any offsets:
-//! a place that is left out is neither stored nor loaded, and the frame keeps its size. What this code does is said by `frame_laws`;
-//! frames that differ by call are `live_frames`.
+//! A frame has the function's locals in a row and behind them the number of the call at which the function waits (`layout`).
+//! `restoring` is the code that takes a frame back into the locals, `saving` the code that puts one; `specs/Spilling.antt` has both
+//! instruction by instruction. `prologue` and `epilogue` are the same codes under a test that the state isn't 0. They go by the
+//! places that they are given, at any offsets: a place that is left out is neither stored nor loaded, and the frame keeps its size.
+//! What this code does is said by `frame_laws`; frames that differ by call are `live_frames`.
 //!
 //! `add_runtime` appends three types, two globals, five functions and their exports, and a memory where the module has none:
 //!
@@ -40,7 +40,7 @@ pub use laying::{layout, width};
 pub use location::put_location_raised;
 pub use putting::{load_of, put_all, put_loaded, put_stored, store_of};
 pub use reserving::{ReservedAt, reserved};
-pub use spilling::{epilogue, prologue};
+pub use spilling::{epilogue, prologue, restoring, saving};
 
 /// The numbers of the appended parts of a written module.
 #[derive(Clone, Copy)]

@@ -1,4 +1,4 @@
-//! The code in front of a function's body and behind it.
+//! The codes that restore and that save a frame, by themselves and where the state isn't 0.
 
 ghost use Rattle.std.specs.Prelude.{◌≡◌, ◌≤◌, ◌-◌, IfOk, OnOk, slice_get};
 ghost use Rattle.wa_types.specs.Syntax.{Code};
@@ -28,8 +28,9 @@ fn index_place(layout: &Layout, base: u32) -> Place
     }
 }
 
-/// What saves a frame.
-fn saving(
+/// What saves a frame of this layout, at the location, which is raised to the frame's end. A frame that doesn't fit traps before
+/// anything is written. The call index is local `base`, and the local behind it is a scratch local.
+pub fn saving(
     alloc: Global,
     layout: &Layout,
     base: u32,
@@ -48,8 +49,9 @@ fn saving(
     Ok(out)
 }
 
-/// What restores a frame.
-fn restoring(
+/// What restores a frame of this layout, from the location lowered by it. The call index is local `base`, and the local behind it
+/// is a scratch local.
+pub fn restoring(
     alloc: Global,
     layout: &Layout,
     base: u32,

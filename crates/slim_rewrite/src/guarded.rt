@@ -9,35 +9,43 @@ ghost use Rattle.flow_rewrite.specs.Emitting.{Rises};
 ghost use Rattle.slim_rewrite.specs.Told.{GuardedTold};
 
 use crate::function::pieces_of;
-use flow_rewrite::{Guards, guarded_pieces, has_one_call};
+use flow_rewrite::{Guards, guarded_pieces, has_one_call, in_own_block};
 use std::alloc::{AllocError, Global};
 use wa_model::FlatFunc;
 use wa_types::Instr;
 
-/// The guarded code of a flat function, of slim pieces with its units, under tests of this global, the state. The calls at these
-/// places are numbered, and so many locals from `low` on are slots. The function's statements are dropped as soon as they stand in
-/// pieces.
+/// The locals of a flat function that are slots: so many from this one on.
+#[derive(Clone, Copy)]
+pub struct Slots {
+    pub low: u32,
+    pub count: usize,
+}
+
+/// The guarded code of a flat function, of slim pieces with its units in a block of their own, under tests of this global, the state. The
+/// calls at these places are numbered. The first test of the state restores the frame by these instructions. In state 0 the code returns,
+/// else it is left by the label of the block that it stands in. The function's statements are dropped as soon as they stand in pieces.
 pub fn guard_slim(
     alloc: Global,
     func: &mut FlatFunc,
     numbers: &[u32],
     state: u32,
-    low: u32,
-    slots: usize,
+    slots: Slots,
+    restoring: Vec<Instr>,
 ) -> Result<Vec<Instr>, AllocError>
     requires fits { FlatFits (flat_func_of func.old) }
     requires rises { Rises numbers.now }
     requires few { call_total (flat_func_of func.old).body < 2 ^ 32 }
-    ensures { IfOk result (λ v. GuardedTold numbers.now low slots state (flat_func_of func.old) (code v.items)) }
+    ensures { IfOk result (λ v. GuardedTold numbers.now slots.low slots.count state (flat_func_of func.old) (code restoring.items) (code v.items)) }
 {
-    let pieces = pieces_of(alloc, func, numbers, low, slots)?;
+    let pieces = pieces_of(alloc, func, numbers, slots.low, slots.count)?;
     let index = func.locals.len() as u32;
     func.body = Vec::new(alloc);
+    let whole = in_own_block(alloc, pieces, func.result)?;
     let guards = Guards {
         alloc,
         state,
         index,
-        one_call: has_one_call(&pieces),
+        one_call: has_one_call(&whole),
     };
-    guarded_pieces(&guards, true, &pieces)
+    guarded_pieces(&guards, restoring, &whole)
 }

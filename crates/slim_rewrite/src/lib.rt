@@ -2,7 +2,8 @@
 //!
 //! `guard_slim` writes each flat function of a module with slim pieces; what is asked of these is `SlimPieces` of `slim_laws`
 //! (`specs/Functions.antt`). A function whose statements don't use slots as a stack keeps its plain pieces, in which each operand
-//! stands in its local. `guard` writes any flat function with plain pieces, each numbered call in a block of its own.
+//! stands in its local. `guard` writes any flat function with plain pieces. Either keeps the flat function's own block, as the only unit of
+//! the sequence that is guarded.
 //!
 //! The walk goes over the statements of a sequence once. Its state is a stack of the slots of all operands, the lowest first: up to a
 //! place they hold their operands, those behind it stand on the operand stack of the slim code. Whether a slot is on the stack is told
@@ -40,7 +41,7 @@ mod stack;
 mod walk;
 
 pub use constructs::Outside;
-pub use guarded::guard_slim;
+pub use guarded::{Slots, guard_slim};
 pub use plain::{GuardedFunc, guard};
 pub use sequence::Head;
 pub use stack::{is_slot, take};

@@ -12,14 +12,14 @@ ghost use Rattle.guard_form.specs.Pieces.{call_total};
 ghost use Rattle.flow_rewrite.specs.Emitting.{Rises};
 
 use crate::function::plain_pieces;
-use flow_rewrite::{Guards, guarded_pieces};
+use flow_rewrite::{Guards, guarded_pieces, in_own_block};
 use std::alloc::{AllocError, Global};
 use wa_model::FlatFunc;
 use wa_types::{Instr, ValType};
 
-/// A flat function with guards: its index, that of its type, its flat locals and behind them the call index and
-/// a scratch local of each type, the local of its result, and the code that stands between what restores a
-/// frame and what saves one, inside the function's block.
+/// A flat function with guards: its index, that of its type, its flat locals and behind them the call index and a scratch local of each
+/// type, the local of its result, and its code. The code stands behind what restores a frame, in a block: in state 0 it returns, else it is
+/// left at the block's end, where what saves a frame stands.
 #[derive(Drop)]
 pub struct GuardedFunc {
     pub func: u32,
@@ -66,7 +66,8 @@ pub fn guard(
         index: func.locals.len() as u32,
         one_call: false,
     };
-    let body = guarded_pieces(&guards, false, &pieces)?;
+    let whole = in_own_block(alloc, pieces, func.result)?;
+    let body = guarded_pieces(&guards, Vec::new(alloc), &whole)?;
     Ok(GuardedFunc {
         func: func.func,
         sort: func.sort,
