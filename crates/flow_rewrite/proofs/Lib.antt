@@ -1,3 +1,4 @@
+pub mod AloneLemmas
 pub mod CallIsNumbered
 mod ExitLemmas
 pub mod FitLemmas

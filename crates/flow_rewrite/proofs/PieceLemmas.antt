@@ -70,7 +70,7 @@ search_of i lead l m k first old new other inside eo ei puts = λ rest.
 
 pub called_of : (i : GuardIndices) (label k : ℕ) (tail : Code) (x : Callee) (slots : List ℕ) (to : Option ℕ) (l1 l2 l3 l4 l5 l6 : List Instr)
     → Puts l1 l2 (slots_got slots) → Puts l2 l3 (plain (call_to x))
-    → Puts l3 l4 (λ c. index_noted i.one_call i.index k (plain (basic (global_get i.state)) (plain (br_if label) c)))
+    → Puts l3 l4 (λ c. index_noted i.first_unnoted i.index k (plain (basic (global_get i.state)) (plain (br_if label) c)))
     → Puts l4 l5 (set_to to) → Puts l5 l6 (followed_by tail) → Puts l1 l6 (λ c. slots_got slots (plain (call_to x) (noted i label k (set_to to (followed_by tail c)))))
 called_of i label k tail x slots to l1 l2 l3 l4 l5 l6 p2 p3 p4 p5 p6 = λ rest.
     let c = followed_by tail rest in

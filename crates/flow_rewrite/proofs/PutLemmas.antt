@@ -1,5 +1,6 @@
 -- What is put behind a list of instructions.
-use Rattle.std.proofs.Common.{◌≡◌, ℕ, ◌+◌, ◌<◌, ◌≤◌, ◌∷◌, ◌++◌, List, [], length, get_or, take, Option, Some, Bool, true, false, refl, sym, ap, subst, ◌∙◌}
+use Rattle.std.proofs.Common.{◌≡◌, ◌&&◌, ℕ, zero, suc, ◌+◌, ◌<◌, ◌≤◌, ◌∷◌, ◌++◌, List, [], length, get_or, take, Option, Some, Bool, true, false, refl, sym, ap, subst, ◌∙◌, arith, eqb-true}
+use Rattle.std.specs.Prelude.{nat_eq}
 use Rattle.std.proofs.lemmas.List.{take_more, take_all}
 use Rattle.wa_types.specs.declared.values.Value.{Value}
 use Rattle.wa_types.specs.declared.values.Value.TheVariants as V
@@ -22,14 +23,21 @@ put_one old new x f e is rest = ap (λ s. onto s rest) e ∙ onto_append old x r
 pub put_on : (old mid new : List Instr) (f g : Code → Code) → Puts old mid f → Puts mid new g → Puts old new (λ c. f (g c))
 put_on old mid new f g h k rest = k rest ∙ h (g rest)
 
--- the index of the only call stands
-pub noted_alone : (one_call : Bool) (x k : ℕ) (old new : List Instr) (f : Code → Code) → one_call ≡ true → Puts old new f → Puts old new (λ c. index_noted one_call x k (f c))
-noted_alone one_call x k old new f e h = subst (λ b. Puts old new (λ c. index_noted b x k (f c))) (sym e) h
+false_true : false ≡ true → ⊥
+false_true e = cc
+
+-- the index of call 0 stands, where that goes unnoted
+pub noted_alone : (unnoted : Bool) (x k : ℕ) (old new : List Instr) (f : Code → Code) → (unnoted && nat_eq k 0) ≡ true → Puts old new f → Puts old new (λ c. index_noted unnoted x k (f c))
+noted_alone true x zero old new f e h = h
+noted_alone true x (suc k) old new f e h = absurd (omega (arith, eqb-true (suc k) 0 e))
+noted_alone false x k old new f e h = absurd (false_true e)
 
 -- else it is set
-pub noted_set : (one_call : Bool) (x k : ℕ) (old new : List Instr) (f : Code → Code) → one_call ≡ false
-    → Puts old new (λ c. plain (basic (const (V.I32 k))) (plain (local_set x) (f c))) → Puts old new (λ c. index_noted one_call x k (f c))
-noted_set one_call x k old new f e h = subst (λ b. Puts old new (λ c. index_noted b x k (f c))) (sym e) h
+pub noted_set : (unnoted : Bool) (x k : ℕ) (old new : List Instr) (f : Code → Code) → (unnoted && nat_eq k 0) ≡ false
+    → Puts old new (λ c. plain (basic (const (V.I32 k))) (plain (local_set x) (f c))) → Puts old new (λ c. index_noted unnoted x k (f c))
+noted_set true x zero old new f e h = absurd (false_true (sym e))
+noted_set true x (suc k) old new f e h = h
+noted_set false x k old new f e h = h
 
 -- one behind another: an instruction in front of code
 pub front_then : (x y : Instr) (rest : Code) → ((c : Code) → in_front y c ≡ in_front x c) → in_front y rest ≡ followed_by (in_front x done) rest

@@ -147,7 +147,7 @@ numbers_front (Block' first s body behind) rest = omega arith
 numbers_front (Loop' first s body behind) rest = omega arith
 numbers_front (If' o fa s a fb t b behind) rest = omega arith
 
--- ---- one numbered call alone
+-- ---- how many numbered calls
 
 -- so many were found, up to 2, with these units to come
 pub record Found (all found left : ℕ) : Type 0 where
@@ -168,12 +168,6 @@ all_found all found xs i le h =
     let few = h.few in
     let same = h.same in
     grind arith
-
-pub one_call : (n found : ℕ) → found ≡ min n 2 → nat_eq found 1 ≡ nat_eq n 1
-one_call zero found e = let z : found ≡ 0 = omega (arith, e) in ap (λ k. nat_eq k 1) z
-one_call (suc zero) found e = let z : found ≡ 1 = omega (arith, e) in ap (λ k. nat_eq k 1) z
-one_call (suc (suc n)) found e =
-    ne_eqb found 1 (λ z. let never : ⊥ = omega (arith, e, z) in never) ∙ sym (ne_eqb (suc (suc n)) 1 (λ z. let never : ⊥ = omega (arith, z) in never))
 
 -- ---- from the labels of the flat code
 

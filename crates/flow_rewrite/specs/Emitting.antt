@@ -7,6 +7,6 @@ use Rattle.flow_rewrite.specs.declared.guards.Guards.{Guards}
 abbrev pub Rises : List ℕ → Type 0
 Rises xs = (i j : ℕ) → i < j → j < length xs → get_or xs i 0 < get_or xs j 0
 
--- the global of the state and the local of the index, and whether the only call isn't noted
+-- the global of the state and the local of the index, and whether call 0 isn't noted
 abbrev pub indices : Guards → GuardIndices
-indices g = record { state = g.state; index = g.index; one_call = g.one_call }
+indices g = record { state = g.state; index = g.index; first_unnoted = g.first_unnoted }

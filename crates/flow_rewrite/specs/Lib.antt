@@ -1,4 +1,5 @@
 pub mod Begun
+pub mod Counting
 pub mod Emitting
 pub mod Exits
 pub mod Fronts

@@ -89,7 +89,7 @@ fn put_called(
     put_target(out, call.target)?;
     put_noted(
         out,
-        guards.one_call,
+        guards.first_unnoted,
         guards.state,
         guards.index,
         number,

@@ -15,13 +15,13 @@ use std::alloc::{AllocError, Global};
 use wa_types::Instr;
 
 /// What the guards of one function are written by: the global of the state and the local of the call index; and whether
-/// its only numbered call isn't noted.
+/// call 0 isn't noted.
 #[derive(Drop)]
 pub struct Guards {
     pub alloc: Global,
     pub state: u32,
     pub index: u32,
-    pub one_call: bool,
+    pub first_unnoted: bool,
 }
 
 /// Puts a piece under a test of the state, where it isn't empty.

@@ -13,7 +13,7 @@
 //!
 //! - `laws`, `numbering`: which calls of a flat function get a number, the places of those at which it may pause.
 //! - `labels`, `put`, `guards`: labels raised, single instructions, the guard of a piece, and the first test of a function.
-//! - `pieces`, `counts`, `exits`: a function in pieces and units, whether it has one numbered call alone, and where runs go that have
+//! - `pieces`, `counts`, `exits`: a function in pieces and units, whether its first call goes unnoted, and where runs go that have
 //!   passed a sequence's calls.
 //! - `calls`, `conditions`, `sequences`: numbered calls, conditions of ifs, where the arm is picked by the saved index of the call while
 //!   the stack is rewound, and `guarded_pieces`, in which each body is written where it is handed in.
@@ -31,7 +31,7 @@ mod pieces;
 mod put;
 mod sequences;
 
-pub use counts::has_one_call;
+pub use counts::leaves_first;
 pub use guards::Guards;
 pub use laws::flat_numbers;
 pub use numbering::number_calls;

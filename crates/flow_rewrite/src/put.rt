@@ -1,6 +1,6 @@
 //! Single instructions of flat and guarded code, put behind others.
 
-ghost use Rattle.std.specs.Prelude.{◌≡◌, ◌+◌, suc, true, OnOk};
+ghost use Rattle.std.specs.Prelude.{◌≡◌, ◌+◌, ◌&&◌, suc, true, nat_eq, OnOk};
 ghost use Rattle.wa_types.specs.declared.values.Value.TheVariants as V;
 ghost use Rattle.wa_types.specs.Syntax.{const, num, global_get, basic, local_get, local_set, br_if, a_block, a_loop, done, plain, nest, branch};
 ghost use Rattle.wa_types.specs.View.{code, in_front};
@@ -146,18 +146,25 @@ fn put_leave(out: &mut Vec<Instr>, state: u32, label: u32) -> Result<(), AllocEr
     Ok(())
 }
 
-/// Puts what notes the index behind a call, but for the only one, and leaves by the label where the state isn't 0.
+/// Whether a call of this number isn't noted: the first one, where it may go so.
+fn goes_unnoted(first_unnoted: bool, number: u32) -> bool
+    ensures { result ≡ (first_unnoted && nat_eq number 0) }
+{
+    first_unnoted && number == 0
+}
+
+/// Puts what notes the index behind a call, but for call 0 where that may go unnoted, and leaves by the label where the state isn't 0.
 pub fn put_noted(
     out: &mut Vec<Instr>,
-    one_call: bool,
+    first_unnoted: bool,
     state: u32,
     index: u32,
     number: u32,
     label: u32,
 ) -> Result<(), AllocError>
-    ensures { OnOk result (Puts out.old.items out.new.items (λ c. index_noted one_call index number (plain (basic (global_get state)) (plain (br_if label) c)))) }
+    ensures { OnOk result (Puts out.old.items out.new.items (λ c. index_noted first_unnoted index number (plain (basic (global_get state)) (plain (br_if label) c)))) }
 {
-    if one_call {
+    if goes_unnoted(first_unnoted, number) {
         put_leave(out, state, label)?;
         return Ok(());
     }
