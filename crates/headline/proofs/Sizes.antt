@@ -95,6 +95,9 @@ result_over (Some x) = omega arith
 restored_depth : (l : Layout) (c : Code) → depth_of (restore_code l c) ≤ max 0 (depth_of c)
 restored_depth l c = let e = restore_depth l c in omega arith
 
+none_more : (c : Code) → instructions_and_labels c ≡ 0 + instructions_and_labels c
+none_more c = omega arith
+
 pub small_law : RewrittenIsSmall
 small_law m i x f st places l valid at keeps =
     let g = flattened m x f in
@@ -109,6 +112,7 @@ small_law m i x f st places l valid at keeps =
     let few = (counted_law places 0 g.body).few in
     let entered = entry_size ids (restore_code l) (10 + 3 * kept_count l.fields) function_end 0 0 done own (restore_size l) in
     let guarded = size_law ids function_end 0 0 done own in
+    let bare = entry_size ids (λ c. c) 0 function_end 0 0 done own none_more in
     let block = block_size first us g.result in
     let whole = function_size l (rewritten m x f st places l).body result in
     let res = result_small result in
@@ -121,4 +125,4 @@ small_law m i x f st places l valid at keeps =
     let block_deep = block_depth first us g.result in
     let shallow = flat_is_flat m x f in
     let whole_depth = function_depth l (rewritten m x f st places l).body result in
-    record { size = omega arith; nesting = omega arith; cost = omega arith }
+    record { guarded = omega arith; size = omega arith; nesting = omega arith; cost = omega arith }

@@ -10,7 +10,7 @@ use Rattle.wa_types.specs.Validity.{Valid}
 use Rattle.wa_model.specs.Rewrites.{instructions_and_labels}
 use Rattle.flat_laws.specs.Flatten.{flattened}
 use Rattle.guard_form.specs.Bounds.{passing}
-use Rattle.guard_form.specs.Guarded.{block_unit, guard_indices, guarded_body}
+use Rattle.guard_form.specs.Guarded.{block_unit, guard_indices, guarded_body, guarded_code}
 use Rattle.guard_form.specs.Pieces.{Units, first_piece, units}
 use Rattle.frame_laws.specs.Function.{WrittenFunc, by_layout, function_code, result_type, unwinding, rewinding}
 use Rattle.frame_laws.specs.Layout.{Layout, kept_count, restore_code}
@@ -35,9 +35,10 @@ KeepsFew m f l = kept_count l.fields ≤ length (locals_of m f) + length (SlotPa
 abbrev pub seek_cost : Module → (x : ℕ) → Func → (places : List ℕ) → ℕ
 seek_cost m x f places = passing done (plain_units m x f places) + 3
 
--- The bounds of a rewritten function: on its size and its nesting, the codes of its frame included; and on its cost at a pause, for
--- unwinding and rewinding together.
+-- The bounds of a rewritten function: on the size of its guarded code where the frame is restored in front of it; on its whole size and its
+-- nesting, the codes of its frame included; and on its cost at a pause, for unwinding and rewinding together.
 pub record IsSmall (m : Module) (x : ℕ) (f : Func) (st : ℕ) (places : List ℕ) (l : Layout) : Type 0 where
+  pub guarded : instructions_and_labels (guarded_code st places (flattened m x f)) ≤ 112 * (Weight m f + 4)
   pub size : instructions_and_labels (function_code (rewritten m x f st places l)) ≤ 112 * (Weight m f + 4)
   pub nesting : depth_of (function_code (rewritten m x f st places l)) ≤ 3 * depth_of (pruned f.body) + 8
   pub cost : unwinding (rewritten m x f st places l) 4 + rewinding (rewritten m x f st places l) (seek_cost m x f places) ≤ 112 * (Weight m f + 4)

@@ -4,8 +4,9 @@ ghost use Rattle.headline.specs.Given.{RunsUnpaused};
 ghost use Rattle.headline.specs.Rewritten.{RewrittenIsSmall};
 ghost use Rattle.run_theory.specs.Quiet.{QuietAreRewritten};
 
-/// A rewritten function has at most 112 instructions and branch labels for each unit of its weight, and for four more, nests at
-/// most 3 times as deep as its original and 8, and unwinding and rewinding it together cost at most 112 a unit, and four more.
+/// A function of plain pieces, each call noted, with one layout has at most 112 instructions and branch labels for each unit of its weight,
+/// and for four more; so has its guarded code alone. It nests at most 3 times as deep as its original and 8, and unwinding and rewinding it
+/// together cost at most 112 a unit, and four more.
 pub fn rewritten_is_small()
     ensures { RewrittenIsSmall }
 {}

@@ -12,7 +12,7 @@ use Rattle.slim_laws.specs.Slim.{Free, Terms}
 use Rattle.slim_laws.specs.SlimUnitLaws.{ToHeld}
 use Rattle.slim_laws.specs.SlimUnits.{SlimUnits}
 
--- a function's first piece, and the units behind it; and whether runs leave its sequences by labels
+-- a function's first piece, and the units behind it; and whether its call 0 may go unnoted
 pub record Pieces : Type 0 where
   pub exits : Bool
   pub first : Code
