@@ -14,7 +14,9 @@ use Rattle.run_theory.specs.Flat.{followed_by, got, set_to, slots_got, result_go
 use Rattle.run_theory.specs.Growth.{Each}
 use Rattle.local_spill.specs.declared.frames.Place.{Place}
 use Rattle.local_spill.specs.Spilling.{SpillIndices, location_of, room_tested, stored_value, loaded_value, locals_stored, locals_loaded, saving, restoring}
+use Rattle.wa_model.specs.Step.{zero_of}
 use Rattle.wa_model.specs.Store.{gives}
+use Rattle.frame_laws.specs.Function.{value_code}
 use Rattle.slim_laws.specs.Slim as S
 use Rattle.slim_laws.specs.Slim.{Free, Slims, Terms}
 use Rattle.guard_form.specs.Pieces.{Units, no_unit, call_unit, nest_unit, if_unit, any_unit, numbers_in, call_to, got_any, flat_units}
@@ -46,7 +48,7 @@ module _ {X : Type 0} (k : Marking X) where
   unmarked : (p : Plain) (c : Code) → k.marks p ≡ [] → marks_of (plain p c) ≡ marks_of c
   unmarked p c e = ap (λ xs. xs ++ marks_of c) e
 
-  marks_then : (a b : Code) → marks_of (followed_by a b) ≡ marks_of a ++ marks_of b
+  pub marks_then : (a b : Code) → marks_of (followed_by a b) ≡ marks_of a ++ marks_of b
   unfolding followed_by
   marks_then done b = refl
   marks_then (plain p c) b = ap (λ z. k.marks p ++ z) (marks_then c b) ∙ sym (append_assoc (k.marks p) (marks_of c) (marks_of b))
@@ -379,6 +381,11 @@ module _ {X : Type 0} (k : Marking X) where
       with_basic (global_get i.address) (location_of i.address sized) ∙ marks_location i.address sized ∙ with_basic (const (V.I32 size)) less ∙ with_basic (num I32Sub) teed
       ∙ with_tee i.scratch lowered ∙ marks_stored I32 0 next ∙ marks_loads i.scratch ps index ∙ with_get i.scratch (loaded_value I32 n set) ∙ marks_loaded I32 n set
       ∙ with_set i.index c
+
+  -- a value for a result
+  pub marks_value : (t : Option ValType) → marks_of (value_code t) ≡ []
+  marks_value None = refl
+  marks_value (Some t) = with_basic (const (zero_of t)) done
 
   marks_result : (r : Option ℕ) → marks_of (result_got r) ≡ []
   marks_result None = refl
