@@ -1,5 +1,5 @@
 -- Frames of the policy `live` are what suspended stacks ask for.
-use Rattle.std.proofs.Common.{◌≡◌, ℕ, suc, List, [], ◌∷◌, length, map, Some, Bool, true, All, refl, sym, ap, ◌∙◌, arith}
+use Rattle.std.proofs.Common.{◌≡◌, ◌≤◌, ℕ, suc, List, [], ◌∷◌, length, map, Option, Some, None, Bool, true, All, refl, sym, ap, ◌∙◌, arith}
 use Rattle.std.specs.Prelude.{slice_get}
 use Rattle.std.proofs.lemmas.List.Elements.{All-cons, All-nil}
 use Rattle.wa_types.specs.Base.{Base}
@@ -8,9 +8,10 @@ use Rattle.wa_types.specs.Modules.{defined_at}
 use Rattle.wa_types.specs.Pausing.{Numbered, Settings, is_told, save_live}
 use Rattle.wa_types.specs.Syntax.{Func, Module}
 use Rattle.wa_types.specs.Validity.{Valid}
-use Rattle.run_theory.specs.Flat.{FlatFunc}
+use Rattle.run_theory.specs.Flat.{FlatFunc, result_got}
 use Rattle.flat_laws.specs.Flatten.{flattened, names, slots}
-use Rattle.guard_form.specs.Pieces.{first_piece, units}
+use Rattle.guard_form.specs.Bounds.{passing}
+use Rattle.guard_form.specs.Pieces.{no_unit, first_piece, units}
 use Rattle.slim_laws.specs.SlimModule.{AllSlimPieces, flat_terms}
 use Rattle.slim_laws.proofs.UnitsPassed.{passing_law}
 use Rattle.flat_laws.proofs.RuntimeModules.{base_flattened}
@@ -31,6 +32,11 @@ all_so : (xs : List ℕ) → All (λ y. true ≡ true) xs
 all_so [] = All-nil (λ y. true ≡ true)
 all_so (x ∷ xs) = All-cons (λ y. true ≡ true) x xs refl (all_so xs)
 
+-- what gets a result is passed at little cost
+result_few : (o : Option ℕ) → passing (result_got o) no_unit ≤ 3
+result_few None = omega arith
+result_few (Some y) = omega arith
+
 module _ (m : Module) (s : Settings) (which : List Bool) (frames : (index : ℕ) → Framing) (valid : Valid m)
     (slim : AllSlimPieces (Base m) which (places_in m s which) (pieces_in m s which frames)) (policy : s.policy ≡ save_live) (live : LiveFraming m s which frames) where
   one : (x : ℕ) (f : Func) → defined_at m x ≡ Some f → is_told (slice_get which x) ≡ true → (k place : ℕ) → slice_get (Numbered m s which f) k ≡ Some place → Framed m s which frames x f k place
@@ -41,6 +47,7 @@ module _ (m : Module) (s : Settings) (which : List Bool) (frames : (index : ℕ)
       let pass = passing_few m x f (Numbered m s which f) in
       let ps = Numbered m s which f in
       let body = (flattened (Base m) x f).body in
+      let last = result_few (flattened (Base m) x f).result in
       let sp = slim x f (base_defined m x ∙ is) told in
       let less = passing_law (flat_terms (Base m) ps x f) 0 (sp.out ∷ []) sp.out sp.here (first_piece ps 0 body) (frames x).pieces.first (units ps 0 body) (frames x).pieces.units sp.slim in
       record {
