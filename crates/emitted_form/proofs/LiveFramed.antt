@@ -1,5 +1,5 @@
 -- Frames of the policy `live` are what suspended stacks ask for.
-use Rattle.std.proofs.Common.{◌≡◌, ◌≤◌, ℕ, suc, List, [], ◌∷◌, length, map, Option, Some, None, Bool, true, All, refl, sym, ap, ◌∙◌, arith}
+use Rattle.std.proofs.Common.{◌≡◌, ℕ, suc, List, [], ◌∷◌, length, map, Some, Bool, true, All, refl, sym, ap, ◌∙◌, arith}
 use Rattle.std.specs.Prelude.{slice_get}
 use Rattle.std.proofs.lemmas.List.Elements.{All-cons, All-nil}
 use Rattle.wa_types.specs.Base.{Base}
@@ -8,10 +8,9 @@ use Rattle.wa_types.specs.Modules.{defined_at}
 use Rattle.wa_types.specs.Pausing.{Numbered, Settings, is_told, save_live}
 use Rattle.wa_types.specs.Syntax.{Func, Module}
 use Rattle.wa_types.specs.Validity.{Valid}
-use Rattle.run_theory.specs.Flat.{FlatFunc, result_got}
+use Rattle.run_theory.specs.Flat.{FlatFunc}
 use Rattle.flat_laws.specs.Flatten.{flattened, names, slots}
-use Rattle.guard_form.specs.Bounds.{passing}
-use Rattle.guard_form.specs.Pieces.{no_unit, first_piece, units}
+use Rattle.guard_form.specs.Pieces.{first_piece, units}
 use Rattle.slim_laws.specs.SlimModule.{AllSlimPieces, flat_terms}
 use Rattle.slim_laws.proofs.UnitsPassed.{passing_law}
 use Rattle.flat_laws.proofs.RuntimeModules.{base_flattened}
@@ -21,7 +20,7 @@ use Rattle.headline.specs.Framed.{Framed, FramedCalls}
 use Rattle.headline.proofs.CallPoints.{base_saved}
 use Rattle.headline.proofs.PairedFlat.{base_defined}
 use Rattle.emitted_form.specs.LiveFraming.{LiveFraming}
-use Rattle.emitted_form.proofs.PassingWeight.{passing_few}
+use Rattle.emitted_form.proofs.PassingWeight.{passing_few, result_few}
 
 -- all places are kept
 pub without_gaps : (ps : List Place) → map (λ (p : Place). kept p.local p.ty) ps ≡ fields_of (λ y. true) ps
@@ -31,11 +30,6 @@ without_gaps (p ∷ ps) = ap (λ fs. kept p.local p.ty ∷ fs) (without_gaps ps)
 all_so : (xs : List ℕ) → All (λ y. true ≡ true) xs
 all_so [] = All-nil (λ y. true ≡ true)
 all_so (x ∷ xs) = All-cons (λ y. true ≡ true) x xs refl (all_so xs)
-
--- what gets a result is passed at little cost
-result_few : (o : Option ℕ) → passing (result_got o) no_unit ≤ 3
-result_few None = omega arith
-result_few (Some y) = omega arith
 
 module _ (m : Module) (s : Settings) (which : List Bool) (frames : (index : ℕ) → Framing) (valid : Valid m)
     (slim : AllSlimPieces (Base m) which (places_in m s which) (pieces_in m s which frames)) (policy : s.policy ≡ save_live) (live : LiveFraming m s which frames) where
