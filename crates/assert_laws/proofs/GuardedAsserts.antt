@@ -275,7 +275,7 @@ module _ (t : Callee → Bool) (st : ℕ) where
     -- ---- a sequence that a function begins with
 
     -- other code in the first arm of the first test
-    with_arm : Code → Code → Code
+    abbrev with_arm : Code → Code → Code
     with_arm w done = done
     with_arm w (plain p (branch r a b c)) = plain p (branch r w b c)
     with_arm w c = c

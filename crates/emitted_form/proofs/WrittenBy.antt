@@ -185,6 +185,9 @@ module _ (m : Module) (s : Settings) (which : List Bool) (codes : (index : ℕ) 
         body_from_law c (indices_of (global_space m) gf) (followed_by (codes x f).restoring) gf.saving done gf.body state_is index_is
         (λ ls next outs h. types_then c ls (codes x f).restoring next outs [] [] (restores c ls memory_is address_is locals_are) h)
         (types_then c (c.result ∷ []) (codes x f).saving (value_code (result_type flat_locals result)) (listed c.result) [] []
-        (saves c (c.result ∷ []) memory_is address_is locals_are) (value_there (c.result ∷ [])))
-        (refl, typed_law c labels (flat_terms m (Numbered m s which f) x f) 0 (sp.out ∷ []) sp.out sp.here [] first0 ps.first units0 ps.units [] sp.slim types_same
-        (pieces_law c labels (Numbered m s which f) 0 (flattened m x f).body stmts), returned (None ∷ c.result ∷ []))
+        (saves c (c.result ∷ []) memory_is address_is locals_are) (value_there (c.result ∷ []))) (
+          refl,
+          typed_law c labels (flat_terms m (Numbered m s which f) x f) 0 (sp.out ∷ []) sp.out sp.here [] first0 ps.first units0 ps.units [] sp.slim types_same
+              (pieces_law c labels (Numbered m s which f) 0 (flattened m x f).body stmts),
+          returned (None ∷ c.result ∷ []),
+        )
