@@ -7,7 +7,7 @@ use Rattle.wa_types.specs.Syntax.{const, num, select, global_get, load, basic, l
 use Rattle.local_spill.specs.Spilling.{index_saved, loaded_value, location_of, location_raised}
 use Rattle.run_theory.specs.Flat.{followed_by}
 use Rattle.frame_laws.specs.Layout.{fields_size, loads, stores}
-use Rattle.call_frames.specs.CallTests.{CallRow, at_call, at_either, at_row, row_test}
+use Rattle.call_frames.specs.CallTests.{CallRow, at_either, at_row, row_test}
 use Rattle.call_frames.specs.CallWords.{at_words, bit_taken, word_of, words_chosen}
 use Rattle.call_frames.specs.FrameParts.{frame_stored_by_call, location_lowered, parts_loaded, parts_stored, restoring_by_call, saving_by_call, scratch_lowered, scratch_raised, shared_size}
 use Rattle.call_frames.specs.PlainFrames.{SavedPart, SavedParts, WeighedCalls, at_calls, at_every, at_rows, at_these, by_words, calls_test, frames_of, is_one_of, or_rows, own_weights, parts_of, rows_of}
