@@ -2,27 +2,29 @@
 
 use crate::flattening::{COUNTDOWN, SELECTOR, flattened};
 use crate::showing::shown;
-use slim_rewrite::{guard, guard_slim};
+use slim_rewrite::{Slots, guard, guard_slim};
 use std::alloc::{AllocError, Global};
 use std::test::Fail;
 use wa_model::{FlatFunc, Operand, Stmt};
 use wa_types::{Instr, ValType, Value};
 
 /// The countdown: a loop that holds an `if` whose other arm alone holds the call. The state is global 0, the call index
-/// local 6. The piece in front of the `if` stands under the test of its condition, and the arm without a call as it is.
+/// local 6. The piece in front of the `if` stands under the test of its condition, and the arm without a call as it is; so
+/// do the pieces behind, to which no run comes in another state. In front of the loop stands a test for a frame to be
+/// restored, of which there is nothing here, and all is in the function's own block, behind which it returns.
 const COUNTDOWN_GUARDED: &str = "\
     GuardedFunc { func: 1, sort: 0, locals: [I32, I32, I32, I32, I32, I32, I32, I32, I64], result: Some(4), body: [\
+    Block { result: None, body: [\
+    GlobalGet(0), If { result: None, then_arm: [], else_arm: [] }, \
     Loop { result: None, body: [\
     GlobalGet(0), If { result: Some(I32), then_arm: [Const(I32(0))], else_arm: [\
     LocalGet(1), LocalSet(2), Const(I32(0)), LocalSet(3), LocalGet(3)] }, \
     If { result: None, then_arm: [\
     Const(I32(100)), LocalSet(3), LocalGet(3), LocalSet(5)], else_arm: [\
-    Block { result: None, body: [\
-    GlobalGet(0), If { result: None, then_arm: [LocalGet(6), Const(I32(0)), Num(I32Ne), BrIf(1)], else_arm: [\
+    GlobalGet(0), If { result: None, then_arm: [], else_arm: [\
     LocalGet(0), LocalSet(3)] }, \
     LocalGet(3), Call(0), Const(I32(0)), LocalSet(6), GlobalGet(0), BrIf(3), LocalSet(3), \
-    LocalGet(3), LocalSet(5)] }] }, \
-    GlobalGet(0), If { result: None, then_arm: [], else_arm: [\
+    LocalGet(3), LocalSet(5)] }, \
     LocalGet(5), LocalSet(3), \
     LocalGet(2), LocalGet(3), Num(I32Add), LocalSet(2), \
     LocalGet(2), LocalSet(1), \
@@ -30,17 +32,17 @@ const COUNTDOWN_GUARDED: &str = "\
     Const(I32(1)), LocalSet(3), \
     LocalGet(2), LocalGet(3), Num(I32Sub), LocalSet(2), \
     LocalGet(2), LocalSet(0), \
-    LocalGet(2), BrIf(1)] }] }, \
-    GlobalGet(0), If { result: None, then_arm: [], else_arm: [\
-    LocalGet(1), LocalSet(2), LocalGet(2), LocalSet(4)] }] }";
+    LocalGet(2), BrIf(0)] }, \
+    LocalGet(1), LocalSet(2), LocalGet(2), LocalSet(4)] }, \
+    LocalGet(4), Return] }";
 
 /// The selector: the blocks are one piece with the move behind them, and its branches stay within it. The state is
-/// global 0, the call index local 7.
+/// global 0, the call index local 7. Nothing seeks the last call.
 const SELECTOR_GUARDED: &str = "\
     GuardedFunc { func: 1, sort: 0, locals: [I32, I32, I32, I32, I32, I32, I32, I32, I32, I64], result: Some(4), \
     body: [\
     Block { result: None, body: [\
-    GlobalGet(0), If { result: None, then_arm: [LocalGet(7), Const(I32(0)), Num(I32Ne), BrIf(1)], else_arm: [\
+    GlobalGet(0), If { result: None, then_arm: [], else_arm: [\
     Block { result: None, body: [\
     Const(I32(5)), LocalSet(1), \
     Block { result: None, body: [\
@@ -54,7 +56,8 @@ const SELECTOR_GUARDED: &str = "\
     LocalGet(1), LocalSet(5)] }, \
     LocalGet(5), LocalSet(1)] }, \
     LocalGet(1), Call(0), Const(I32(0)), LocalSet(7), GlobalGet(0), BrIf(1), LocalSet(1), \
-    LocalGet(1), LocalSet(4)] }] }";
+    LocalGet(1), LocalSet(4)] }, \
+    LocalGet(4), Return] }";
 
 #[test]
 fn flat_functions_are_guarded(rt: HostRuntime) -> Result<(), Fail> {
@@ -147,29 +150,29 @@ fn four_calls(alloc: Global) -> Result<FlatFunc, AllocError> {
 }
 
 /// It with guards. The state is global 7, the call index local 4; the calls numbered 1 and 2 stand in the arms of an
-/// `if` that goes by the index. A label that leaves its piece is higher by 2 in front of a call, else by 1.
+/// `if` that goes by the index. A label that leaves its piece is higher by 2 in front of a call with a block of its own, else
+/// by 1. The first call has a block of its own, as others follow; nothing seeks the last call of a sequence.
 const FOUR_CALLS_GUARDED: &str = "\
     GuardedFunc { func: 9, sort: 4, locals: [I32, I64, I32, I32, I32, I32, I64], result: None, body: [\
+    Block { result: None, body: [\
     Block { result: None, body: [\
     Block { result: None, body: [\
     GlobalGet(7), If { result: None, then_arm: [LocalGet(4), Const(I32(0)), Num(I32Ne), BrIf(1)], else_arm: [\
     LocalGet(0), If { result: None, then_arm: [Br(4)], else_arm: [\
     LocalGet(0), BrTable { labels: [0, 3], last: 4 }] }] }, \
-    Call(0), Const(I32(0)), LocalSet(4), GlobalGet(7), BrIf(2), \
+    Call(0), Const(I32(0)), LocalSet(4), GlobalGet(7), BrIf(3), \
     LocalGet(3), Call(1), LocalSet(3), \
     LocalGet(3), BrIf(2)] }, \
     GlobalGet(7), If { result: Some(I32), then_arm: [LocalGet(4), Const(I32(2)), Num(I32LtU)], else_arm: [\
     Const(I32(1))] }, \
     If { result: None, then_arm: [\
-    Block { result: None, body: [\
-    GlobalGet(7), If { result: None, then_arm: [LocalGet(4), Const(I32(1)), Num(I32Ne), BrIf(1)], else_arm: [] }, \
-    LocalGet(2), LocalGet(3), CallIndirect(1), Const(I32(1)), LocalSet(4), GlobalGet(7), BrIf(3), LocalSet(2)] }], \
+    LocalGet(2), LocalGet(3), CallIndirect(1), Const(I32(1)), LocalSet(4), GlobalGet(7), BrIf(3), LocalSet(2)], \
     else_arm: [\
-    Block { result: None, body: [\
-    GlobalGet(7), If { result: None, then_arm: [LocalGet(4), Const(I32(2)), Num(I32Ne), BrIf(1)], else_arm: [\
+    GlobalGet(7), If { result: None, then_arm: [], else_arm: [\
     LocalGet(2), Load { op: 40, align: 2, offset: 8 }, LocalSet(3)] }, \
-    Call(0), Const(I32(2)), LocalSet(4), GlobalGet(7), BrIf(3)] }] }] }, \
-    GlobalGet(7), If { result: None, then_arm: [], else_arm: [Br(1)] }] }";
+    Call(0), Const(I32(2)), LocalSet(4), GlobalGet(7), BrIf(3)] }] }, \
+    Br(0)] }, \
+    Return] }";
 
 #[test]
 fn an_if_goes_by_the_index_of_its_calls(rt: HostRuntime) -> Result<(), Fail> {
@@ -187,6 +190,7 @@ fn an_if_goes_by_the_index_of_its_calls(rt: HostRuntime) -> Result<(), Fail> {
 const ONE_CALL_GUARDED: &str = "\
     GuardedFunc { func: 9, sort: 4, locals: [I32, I64, I32, I32, I32, I32, I64], result: None, body: [\
     Block { result: None, body: [\
+    Block { result: None, body: [\
     GlobalGet(7), If { result: Some(I32), then_arm: [Const(I32(1))], else_arm: [\
     LocalGet(0), If { result: None, then_arm: [Br(3)], else_arm: [\
     LocalGet(0), BrTable { labels: [0, 2], last: 3 }] }, \
@@ -195,13 +199,12 @@ const ONE_CALL_GUARDED: &str = "\
     LocalGet(3), BrIf(2), \
     Const(I32(1))] }, \
     If { result: None, then_arm: [\
-    Block { result: None, body: [\
-    GlobalGet(7), If { result: None, then_arm: [LocalGet(4), Const(I32(0)), Num(I32Ne), BrIf(1)], else_arm: [] }, \
-    LocalGet(2), LocalGet(3), CallIndirect(1), Const(I32(0)), LocalSet(4), GlobalGet(7), BrIf(3), LocalSet(2)] }], \
+    LocalGet(2), LocalGet(3), CallIndirect(1), Const(I32(0)), LocalSet(4), GlobalGet(7), BrIf(3), LocalSet(2)], \
     else_arm: [\
     LocalGet(2), Load { op: 40, align: 2, offset: 8 }, LocalSet(3), \
     Call(0)] }] }, \
-    GlobalGet(7), If { result: None, then_arm: [], else_arm: [Br(1)] }] }";
+    Br(0)] }, \
+    Return] }";
 
 #[test]
 fn calls_without_a_number_stand_in_pieces(rt: HostRuntime) -> Result<(), Fail> {
@@ -214,31 +217,41 @@ fn calls_without_a_number_stand_in_pieces(rt: HostRuntime) -> Result<(), Fail> {
     Ok(())
 }
 
-/// It as `guard_slim` writes it where no local is told as a slot, so that each operand stands in its local: runs that
-/// have passed the calls leave by labels that stand around anyway. A call in a block of its own raises labels by 2.
-const FOUR_CALLS_LEFT_BY_LABELS: &str = "[\
+/// What stands for the code that restores a frame.
+fn restoring(alloc: Global) -> Result<Vec<Instr>, AllocError> {
+    vec![in alloc; Instr::GlobalGet(8), Instr::LocalSet(5)]
+}
+
+/// The function of four calls as `guard_slim` writes it where no local is told as a slot, so that each operand stands in its
+/// local: the first test of the state restores the frame, inside the blocks around it and in front of what seeks the call.
+const FOUR_CALLS_RESTORED: &str = "[\
     Block { result: None, body: [\
     Block { result: None, body: [\
-    GlobalGet(7), If { result: None, then_arm: [LocalGet(4), Const(I32(0)), Num(I32Ne), BrIf(1)], else_arm: [\
+    Block { result: None, body: [\
+    GlobalGet(7), If { result: None, then_arm: [\
+    GlobalGet(8), LocalSet(5), LocalGet(4), Const(I32(0)), Num(I32Ne), BrIf(1)], else_arm: [\
     LocalGet(0), If { result: None, then_arm: [Br(4)], else_arm: [\
     LocalGet(0), BrTable { labels: [0, 3], last: 4 }] }] }, \
-    Call(0), Const(I32(0)), LocalSet(4), GlobalGet(7), BrIf(2), \
+    Call(0), Const(I32(0)), LocalSet(4), GlobalGet(7), BrIf(3), \
     LocalGet(3), Call(1), LocalSet(3), \
     LocalGet(3), BrIf(2)] }, \
     GlobalGet(7), If { result: Some(I32), then_arm: [LocalGet(4), Const(I32(2)), Num(I32LtU)], else_arm: [\
     Const(I32(1))] }, \
     If { result: None, then_arm: [\
-    LocalGet(2), LocalGet(3), CallIndirect(1), Const(I32(1)), LocalSet(4), GlobalGet(7), BrIf(2), LocalSet(2)], \
+    LocalGet(2), LocalGet(3), CallIndirect(1), Const(I32(1)), LocalSet(4), GlobalGet(7), BrIf(3), LocalSet(2)], \
     else_arm: [\
     GlobalGet(7), If { result: None, then_arm: [], else_arm: [\
     LocalGet(2), Load { op: 40, align: 2, offset: 8 }, LocalSet(3)] }, \
-    Call(0), Const(I32(2)), LocalSet(4), GlobalGet(7), BrIf(2)] }] }, \
-    Br(0)]";
+    Call(0), Const(I32(2)), LocalSet(4), GlobalGet(7), BrIf(3)] }] }, \
+    Br(0)] }, \
+    Return]";
 
-/// So is it where only the call in the first arm is numbered, which isn't noted then.
-const ONE_CALL_LEFT_BY_LABELS: &str = "[\
+/// So is it where only the call in the first arm is numbered, which isn't noted then: the frame is restored in front of the
+/// choice of the arm.
+const ONE_CALL_RESTORED: &str = "[\
     Block { result: None, body: [\
-    GlobalGet(7), If { result: Some(I32), then_arm: [Const(I32(1))], else_arm: [\
+    Block { result: None, body: [\
+    GlobalGet(7), If { result: Some(I32), then_arm: [GlobalGet(8), LocalSet(5), Const(I32(1))], else_arm: [\
     LocalGet(0), If { result: None, then_arm: [Br(3)], else_arm: [\
     LocalGet(0), BrTable { labels: [0, 2], last: 3 }] }, \
     Call(0), \
@@ -246,23 +259,50 @@ const ONE_CALL_LEFT_BY_LABELS: &str = "[\
     LocalGet(3), BrIf(2), \
     Const(I32(1))] }, \
     If { result: None, then_arm: [\
-    LocalGet(2), LocalGet(3), CallIndirect(1), GlobalGet(7), BrIf(2), LocalSet(2)], else_arm: [\
+    LocalGet(2), LocalGet(3), CallIndirect(1), GlobalGet(7), BrIf(3), LocalSet(2)], else_arm: [\
     LocalGet(2), Load { op: 40, align: 2, offset: 8 }, LocalSet(3), \
     Call(0)] }] }, \
-    Br(0)]";
+    Br(0)] }, \
+    Return]";
+
+/// The countdown so: in front of the loop the frame is restored by a test for that alone.
+const COUNTDOWN_RESTORED: &str = "[\
+    Block { result: None, body: [\
+    GlobalGet(0), If { result: None, then_arm: [GlobalGet(8), LocalSet(5)], else_arm: [] }, \
+    Loop { result: None, body: [\
+    GlobalGet(0), If { result: Some(I32), then_arm: [Const(I32(0))], else_arm: [\
+    LocalGet(1), LocalSet(2), Const(I32(0)), LocalSet(3), LocalGet(3)] }, \
+    If { result: None, then_arm: [\
+    Const(I32(100)), LocalSet(3), LocalGet(3), LocalSet(5)], else_arm: [\
+    GlobalGet(0), If { result: None, then_arm: [], else_arm: [\
+    LocalGet(0), LocalSet(3)] }, \
+    LocalGet(3), Call(0), GlobalGet(0), BrIf(3), LocalSet(3), \
+    LocalGet(3), LocalSet(5)] }, \
+    LocalGet(5), LocalSet(3), \
+    LocalGet(2), LocalGet(3), Num(I32Add), LocalSet(2), \
+    LocalGet(2), LocalSet(1), \
+    LocalGet(0), LocalSet(2), \
+    Const(I32(1)), LocalSet(3), \
+    LocalGet(2), LocalGet(3), Num(I32Sub), LocalSet(2), \
+    LocalGet(2), LocalSet(0), \
+    LocalGet(2), BrIf(0)] }, \
+    LocalGet(1), LocalSet(2), LocalGet(2), LocalSet(4)] }, \
+    LocalGet(4), Return]";
 
 #[test]
-fn runs_leave_by_labels_where_operands_are_no_slots(rt: HostRuntime) -> Result<(), Fail> {
+fn the_first_test_restores_the_frame(rt: HostRuntime) -> Result<(), Fail> {
     let alloc = rt.alloc();
-    let all = guard_slim(alloc, &mut four_calls(alloc)?, &[0, 2, 3], 7, 0, 0)?;
-    assert_eq!(rt;
-        shown(alloc, &all)?.as_str(),
-        FOUR_CALLS_LEFT_BY_LABELS
-    );
-    let one = guard_slim(alloc, &mut four_calls(alloc)?, &[2], 7, 0, 0)?;
-    assert_eq!(rt;
-        shown(alloc, &one)?.as_str(),
-        ONE_CALL_LEFT_BY_LABELS
-    );
+    let none = Slots { low: 0, count: 0 };
+    let rows = [
+        ([0, 2, 3].as_slice(), FOUR_CALLS_RESTORED),
+        ([2].as_slice(), ONE_CALL_RESTORED),
+    ];
+    for (numbers, wanted) in rows {
+        let written = guard_slim(alloc, &mut four_calls(alloc)?, numbers, 7, none, restoring(alloc)?)?;
+        assert_eq!(rt; shown(alloc, &written)?.as_str(), wanted);
+    }
+    let mut flat = flattened(alloc, COUNTDOWN, &[false, true])?;
+    let written = guard_slim(alloc, &mut flat.funcs[0], &[0], 0, none, restoring(alloc)?)?;
+    assert_eq!(rt; shown(alloc, &written)?.as_str(), COUNTDOWN_RESTORED);
     Ok(())
 }

@@ -6,7 +6,8 @@ use Rattle.wa_types.specs.Modules.{declared_locals, defined_at, func_type_at, lo
 use Rattle.wa_types.specs.Pausing.{Callee, Settings, TellsMayPause, calls_of, Numbered, has_number, is_told}
 use Rattle.wa_types.specs.Pruned.{pruned}
 use Rattle.wa_types.specs.Runtime.{global_space}
-use Rattle.wa_types.specs.Syntax.{Func, Module}
+use Rattle.wa_types.specs.Syntax.{Code, Func, Module}
+use Rattle.wa_types.specs.declared.values.ValType.{ValType}
 use Rattle.wa_types.specs.Validity.{Valid}
 use Rattle.wa_model.specs.Behaves.{BehavesOn}
 use Rattle.wa_model.specs.Blocking.{Blocking}
@@ -21,7 +22,8 @@ use Rattle.assert_laws.proofs.TestedCode.{asserted_law, reached_law}
 use Rattle.assert_laws.specs.Links.{assert_sides}
 use Rattle.guard_form.specs.Numbers as F
 use Rattle.guard_form.specs.Pieces.{Units, no_unit, call_unit, nest_unit, if_unit, first_piece, units}
-use Rattle.guard_form.proofs.Counting.{units_law}
+use Rattle.frame_laws.specs.Function.{result_type, value_code}
+use Rattle.guard_form.proofs.Counting.{calls_then, units_law}
 use Rattle.slim_laws.proofs.UnitsAlike.{units_alike}
 use Rattle.slim_laws.specs.SlimModule.{flat_terms}
 use Rattle.headline.specs.Given.{ComparedGiven, Given}
@@ -31,7 +33,7 @@ use Rattle.headline.specs.World.{World}
 use Rattle.wa_model.specs.Configuration.{Configuration}
 use Rattle.headline.specs.Core.{world_of}
 use Rattle.headline.specs.CoreOf.{core_of}
-use Rattle.headline.specs.EmittedModule.{Emitted, Framing, flat_of, role_at}
+use Rattle.headline.specs.EmittedModule.{Emitted, Framing, flat_of, guarded_of, role_at}
 use Rattle.headline.proofs.PairedFlat.{base_defined, paired}
 use Rattle.assert_laws.specs.EmittedWithAsserts.{asserted_body, module_with_asserts}
 use Rattle.assert_laws.proofs.ModuleWithAsserts.{func_too, same_parts, same_types}
@@ -107,12 +109,23 @@ module _ (m : Module) (s : Settings) (which : List Bool) (frames : (index : ℕ)
   abbrev pub QuietFrames : Type 0
   QuietFrames = (x : ℕ) (f : Func) → defined_at m x ≡ Some f → is_told (slice_get which x) ≡ true → (calls_of (frames x).restoring ≡ []) × (calls_of (frames x).saving ≡ [])
 
+  value_quiet : (t : Option ValType) → calls_of (value_code t) ≡ []
+  unfolding calls_of
+  value_quiet None = refl
+  value_quiet (Some t) = refl
+
+  -- nor does the code that saves, with a value behind it
+  saving_quiet : (x : ℕ) (f : Func) → calls_of (frames x).saving ≡ [] → calls_of (guarded_of m s which frames x f).saving ≡ []
+  saving_quiet x f e =
+      let value : Code = value_code (result_type (flat_of m s which frames x f).locals (flat_of m s which frames x f).result) in
+      calls_then (frames x).saving value ∙ ap (λ z. z ++ calls_of value) e ∙ value_quiet (result_type (flat_of m s which frames x f).locals (flat_of m s which frames x f).result)
+
   guards : Valid m → Emitted m s which frames p0 → QuietFrames → (x : ℕ) → GuardsFit (has_number m s which) (role_at m s which frames (is_told (slice_get which x)) x (defined_at m x))
   guards valid em quiet x = by (is_told (slice_get which x)) refl (defined_at m x) refl
     where
       by : (t : Bool) → is_told (slice_get which x) ≡ t → (o : Option Func) → defined_at m x ≡ o → GuardsFit (has_number m s which) (role_at m s which frames t x o)
       by true e None is = tt
-      by true e (Some f) is = let none = quiet x f is e in (none.0, none.1, own_so valid em x f is e)
+      by true e (Some f) is = let none = quiet x f is e in (none.0, saving_quiet x f none.1, (own_so valid em x f is e, tt))
       by false e None is = tt
       by false e (Some f) is = tt
 

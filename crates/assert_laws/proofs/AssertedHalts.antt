@@ -75,6 +75,7 @@ use Rattle.headline.proofs.PairedStacks.{AllPairs, pairs}
 use Rattle.headline.proofs.SlimStacks.{pairs_too}
 use Rattle.headline.proofs.WaitsAgain.{all_told, front_same}
 use Rattle.assert_laws.specs.AssertedRoles.{asserted_guards, asserted_role}
+use Rattle.assert_laws.proofs.OwnUnits.{own_unit}
 use Rattle.assert_laws.proofs.AssertedPlaces.{arms_too}
 use Rattle.assert_laws.proofs.BareStacks.{any_alike, bare_stack, reach_alike, sum_alike}
 use Rattle.assert_laws.proofs.AssertedStacks.{SameLocals, pairs_asserted, role2, stands_so, w2}
@@ -259,11 +260,12 @@ module _ (m : Module) (s : Settings) (which : List Bool) (frames : (index : ℕ)
           (units_alike (flat_terms (Base m) ps x f) 0 (sp.out ∷ []) sp.out sp.here [] (first_piece ps 0 body) (frames x).pieces.first (units ps 0 body) (frames x).pieces.units sp.slim).arms
           (arms_law ps 0 body) in
           let same : asserted_guards ask (global_space m) (guarded_of m s which frames x f) ≡ f2 = the_guards (asserted_guards ask (global_space m) (guarded_of m s which frames x f)) f2 e in (
-            subst (λ (z : GuardedFunc). ArmsHold z.body) same (arms_too ask (global_space m) (frames x).pieces.units arms),
+            subst (λ (z : GuardedFunc). ArmsHold z.body) same
+                (arms_too ask (global_space m) (guarded_of m s which frames x f).body (own_unit m s which tells x f is td (frames x).pieces sp, arms, tt)),
             (
               td,
               subst (λ (z : GuardedFunc). UnitsNumbered (has_number m s which) z.body) same
-                  (units_numbered (has_number m s which) ask (global_space m) (frames x).pieces.units (own_numbered x f is td)),
+                  (units_numbered (has_number m s which) ask (global_space m) (guarded_of m s which frames x f).body (own_numbered x f is td, tt)),
             ),
           )
 

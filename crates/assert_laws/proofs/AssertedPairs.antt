@@ -5,14 +5,14 @@ use Rattle.wa_types.specs.Modules.{declared_locals, defined_at, func_imports, fu
 use Rattle.wa_types.specs.Pausing.{Callee, callee, calls_of}
 use Rattle.wa_types.specs.Pruned.{pruned}
 use Rattle.wa_types.specs.Runtime.{global_space}
-use Rattle.wa_types.specs.Syntax.{a_block, Code, done, plain, nest, branch, Func, Module}
-use Rattle.run_theory.specs.Flat.{followed_by, result_got}
+use Rattle.wa_types.specs.Syntax.{Code, done, plain, nest, branch, Func, Module}
+use Rattle.run_theory.specs.Flat.{followed_by}
 use Rattle.wa_model.specs.Step.{memory_max, param_count}
 use Rattle.guard_form.specs.Asserts.{any_callee, assert_code, asserted, asserted_reached, tested_behind}
 use Rattle.guard_form.proofs.AssertedCode.{reached_law}
 use Rattle.assert_laws.specs.AssertedUnits.{asserted_units, UnitsUntested}
 use Rattle.assert_laws.proofs.GuardedAsserts as G
-use Rattle.guard_form.specs.Functions.{Calls, PiecesCall, Role, RoleCalls, as_is, extra_types, flat_code, size_of, with_guards, written_code}
+use Rattle.guard_form.specs.Functions.{Calls, CallsIn, PiecesIn, Room, deeper, Role, RoleCalls, as_is, extra_types, flat_code, size_of, with_guards, written_code}
 use Rattle.guard_form.specs.Guarded.{guard_indices, has_one_call, written_body}
 use Rattle.guard_form.specs.Pieces.{Units, no_unit, call_unit, nest_unit, if_unit}
 use Rattle.guard_runs.specs.Alike.{Paired, sides_of}
@@ -59,34 +59,16 @@ module _ (n : Callee → Bool) (st : ℕ) where
   untested (nest_unit s first body behind rest) h = (untested body h.0, untested rest h.1)
   untested (if_unit c fa a fb b behind rest) h = (untested a h.0, untested b h.1, untested rest h.2)
 
-  result_stays : (r : Option ℕ) → asserted (λ x. not (n x)) st (result_got r) ≡ result_got r
-  unfolding asserted
-  result_stays None = refl
-  result_stays (Some x) = refl
-
-  result_calls : (r : Option ℕ) → calls_of (result_got r) ≡ []
-  unfolding calls_of
-  result_calls None = refl
-  result_calls (Some x) = refl
-
   done_stays : asserted (λ x. not (n x)) st done ≡ asserted_reached st done
   unfolding asserted asserted_reached
   done_stays = refl
-
-  nest_too : (first : Code) (us : Units) (r : Option ℕ) → UnitsNumbered n us
-      → asserted (λ x. not (n x)) st (nest a_block None first (result_got r)) ≡ nest a_block None (asserted (λ x. not (n x)) st first) (asserted (λ x. not (n x)) st (result_got r))
-  unfolding asserted
-  nest_too first us r h = refl
 
   -- the flat code of a role with asserts
   pub flat_too : (told : Bool) (r : Role) → StaysUntold told r → GuardsFit n r → asserted_body (λ x. not (n x)) st told (flat_code r) ≡ flat_code (asserted_role (λ x. not (n x)) st r)
   flat_too true (as_is k body) e h = ap (asserted t st) e ∙ done_stays ∙ ap (asserted_reached st) (sym e)
   flat_too false (as_is k body) e h = refl
   flat_too false (with_guards f) e h = absurd e
-  flat_too true (with_guards f) e h =
-      nest_too (followed_by f.first (Rattle.guard_form.specs.Pieces.flat_units f.body)) f.body f.result h.2
-      ∙ ap (λ z. nest a_block None z (asserted (λ x. not (n x)) st (result_got f.result))) (sym (G.flat_law t st f.first f.body (untested f.body h.2)))
-      ∙ ap (λ z. nest a_block None (followed_by (asserted t st f.first) (Rattle.guard_form.specs.Pieces.flat_units (asserted_units t st f.body))) z) (result_stays f.result)
+  flat_too true (with_guards f) e h = sym (G.flat_law t st f.first f.body (untested f.body h.2))
 
   one_same : (exits : Bool) (us : Units) → has_one_call exits (asserted_units (λ x. not (n x)) st us) ≡ has_one_call exits us
   one_same true us = ap (λ k. nat_eq k 1) (numbers_same t st us)
@@ -98,8 +80,8 @@ module _ (n : Callee → Bool) (st : ℕ) where
   written_too false (as_is k body) e h = refl
   written_too false (with_guards f) e h = absurd e
   written_too true (with_guards f) e h =
-      sym (G.written_law t st (guard_indices st f.size f.exits f.body) f.exits f.restoring f.saving (result_got f.result) f.first f.body (untested f.body h.2) h.0 h.1 (result_calls f.result))
-      ∙ ap (λ o. written_body (record { state = st; index = f.size; one_call = o }) f.exits f.restoring f.saving (result_got f.result) (asserted t st f.first) (asserted_units t st f.body))
+      sym (G.written_law t st (guard_indices st f.size f.exits f.body) f.restoring f.saving f.first f.body (untested f.body h.2) h.0 h.1)
+      ∙ ap (λ o. written_body (record { state = st; index = f.size; one_call = o }) (followed_by f.restoring) f.saving (asserted t st f.first) (asserted_units t st f.body))
       (sym (one_same f.exits f.body))
 
   extra_same : (r : Role) → extra_types (asserted_role (λ x. not (n x)) st r) ≡ extra_types r
@@ -128,15 +110,32 @@ module _ (n : Callee → Bool) (st : ℕ) where
     calls_too tests (nest s r body rest) h = (calls_too tests body h.0, calls_too tests rest h.1)
     calls_too tests (branch r a b rest) h = (calls_too tests a h.0, calls_too tests b h.1, calls_too tests rest h.2)
 
-    pieces_too : (us : Units) → PiecesCall P us → PiecesCall P (asserted_units (λ x. not (n x)) st us)
-    pieces_too no_unit h = tt
-    pieces_too (call_unit slots x to behind rest) h = (calls_too t behind h.0, pieces_too rest h.1)
-    pieces_too (nest_unit s first body behind rest) h = (calls_too t first h.0, pieces_too body h.1, calls_too t behind h.2, pieces_too rest h.3)
-    pieces_too (if_unit c fa a fb b behind rest) h = (calls_too t fa h.0, pieces_too a h.1, calls_too t fb h.2, pieces_too b h.3, calls_too t behind h.4, pieces_too rest h.5)
+    -- the same where branches stay inside
+    behind_in : (r : Room) (tests : Callee → Bool) (o : Option Callee) (c : Code) → CallsIn P r c → CallsIn P r (tested_behind tests st o c)
+    behind_in r tests None c h = h
+    behind_in r tests (Some x) c h = by (tests x)
+      where
+        by : (b : Bool) → CallsIn P r (if b then assert_code st c else c)
+        by true = ((tt, tt), ((tt, tt), ((tt, tt), (((tt, tt), tt), tt, h))))
+        by false = h
+
+    ins_too : (r : Room) (tests : Callee → Bool) (c : Code) → CallsIn P r c → CallsIn P r (asserted tests st c)
+    unfolding asserted
+    ins_too r tests done h = tt
+    ins_too r tests (plain p rest) h = (h.0, behind_in r tests (callee p) (asserted tests st rest) (ins_too r tests rest h.1))
+    ins_too r tests (nest s o body rest) h = (ins_too (deeper r) tests body h.0, ins_too r tests rest h.1)
+    ins_too r tests (branch o a b rest) h = (ins_too (deeper r) tests a h.0, ins_too (deeper r) tests b h.1, ins_too r tests rest h.2)
+
+    pieces_too : (r : Room) (us : Units) → PiecesIn P r us → PiecesIn P r (asserted_units (λ x. not (n x)) st us)
+    pieces_too r no_unit h = tt
+    pieces_too r (call_unit slots x to behind rest) h = (ins_too r t behind h.0, pieces_too r rest h.1)
+    pieces_too r (nest_unit s first body behind rest) h = (ins_too (deeper r) t first h.0, pieces_too (deeper r) body h.1, ins_too r t behind h.2, pieces_too r rest h.3)
+    pieces_too r (if_unit c fa a fb b behind rest) h =
+        (ins_too (deeper r) t fa h.0, pieces_too (deeper r) a h.1, ins_too (deeper r) t fb h.2, pieces_too (deeper r) b h.3, ins_too r t behind h.4, pieces_too r rest h.5)
 
     role_calls : (r : Role) → RoleCalls P r → RoleCalls P (asserted_role (λ x. not (n x)) st r)
     role_calls (as_is k body) h = subst (Calls P) (sym (reached_law st body)) (calls_too any_callee (pruned body) h)
-    role_calls (with_guards f) h = (calls_too t f.first h.0, pieces_too f.body h.1)
+    role_calls (with_guards f) h = (ins_too (Some 0) t f.first h.0, pieces_too (Some 0) f.body h.1)
 
 some_func : (x y : Func) → Some x ≡ Some y → x ≡ y
 some_func x y e = cc

@@ -88,8 +88,8 @@ codes_too : (t : Callee → Bool) (st : ℕ) (f : GuardedFunc) (l : CallFrame) (
 codes_too t st f l n c = record {
   puts = λ g area p fn under labels s ls loc at fits sav. let r = c.puts g area p fn under labels s ls loc at fits sav in record { after = r.after; pushed = r.pushed; locals = r.locals; goes = r.goes };
   overflows = c.overflows;
-  takes = λ g area p fn under labels s old ls loc at low holds fits few long.
-      let r = c.takes g area p fn under labels s old ls loc at low holds fits few long in record { locals = r.locals; restored = r.restored; after = r.after; lowered = r.lowered; goes = r.goes };
+  takes = λ g area p fn under labels s old ls loc next at low holds fits few long.
+      let r = c.takes g area p fn under labels s old ls loc next at low holds fits few long in record { locals = r.locals; restored = r.restored; after = r.after; lowered = r.lowered; goes = r.goes };
 }
 
 -- the unit of a call
@@ -226,7 +226,7 @@ module _ (m : Module) (s : Settings) (which : List Bool) (frames : (index : ℕ)
       number = h.number;
       weighs =
           let e = passing_same tests st f.first f.body in
-          let c : pause_cost st (asserted_guards tests st f) l ≡ pause_cost st f l = ap (λ n. unwinding (written_of st f l) 4 + rewinding (written_of st f l) n) e in
+          let c : pause_cost st (asserted_guards tests st f) l ≡ pause_cost st f l = ap (λ n. unwinding (written_of st f l) 4 + rewinding (written_of st f l) (n + 3)) e in
           subst (λ z. param_count (func_type_at (Base m) a.func) + (z + 1 + (2 * length slots + 1)) ≤ 128 * (Weight m g + 4)) (sym c) h.weighs;
     }
 
@@ -296,7 +296,7 @@ module _ (m : Module) (s : Settings) (which : List Bool) (frames : (index : ℕ)
           ∙ ap param_count (grown_func_type k fits a.func (subst (λ i. a.func < i) (sym (funcs_are k fits)) (space_below m valid a.func num.func num.is)) ∙ func_type_same k fits a.func)
 
       weighs_enough : param_count (func_type_at q fn)
-          + (unwinding (written_of st f2 (k.lay act)) 4 + 1 + (2 * length slots + 1) + rewinding (written_of st f2 (k.lay act)) (passing f2.first f2.body)) ≤ activation_bound m (suspended (Base m) a)
+          + (unwinding (written_of st f2 (k.lay act)) 4 + 1 + (2 * length slots + 1) + rewinding (written_of st f2 (k.lay act)) (passing f2.first f2.body + 3)) ≤ activation_bound m (suspended (Base m) a)
       weighs_enough = let w = level.weighs in let e = bound_is in let q = params_are in omega arith
 
     abbrev pub Stands : {g : ℕ} {vs ws : List Activation} → List Activation → Stopped (setting w2 top) g vs ws → Type 0
@@ -333,7 +333,7 @@ module _ (m : Module) (s : Settings) (which : List Bool) (frames : (index : ℕ)
       ops = ops;
       taken = taken;
       out = 4;
-      seek = passing f.first f.body;
+      seek = passing f.first f.body + 3;
     }
 
     pub stands_so : (table : List (Option ℕ)) (g c : ℕ) (us vs ws : List Activation) (d : Stopped (setting w2 top) c vs ws) → AllPairs (Base m) which us vs → AllAtNumbers m s which valid table g us

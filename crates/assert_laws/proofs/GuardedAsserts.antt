@@ -4,11 +4,12 @@ use Rattle.std.specs.Prelude.{if◌then◌else◌}
 use Rattle.wa_types.specs.Pausing.{Callee, direct, indirect, callee, callee_onto, calls_of}
 use Rattle.wa_types.specs.declared.values.ValType.TheVariants.{I32}
 use Rattle.wa_types.specs.declared.operators.NumOp.TheVariants.{I32LtU, I32Ne}
-use Rattle.wa_types.specs.Syntax.{global_get, num, Plain, basic, local_get, local_set, local_tee, br, br_if, br_table, return, unreachable, call, call_indirect, a_block, Code, done, plain, nest, branch}
+use Rattle.wa_types.specs.Syntax.{global_get, num, Plain, basic, local_get, local_set, local_tee, br, br_if, br_table, return, unreachable, call, call_indirect, a_block, a_loop, Code, done, plain, nest, branch}
 use Rattle.run_theory.specs.Flat.{followed_by, set_to, slots_got}
 use Rattle.wa_model.specs.declared.flat.Operand.{Operand}
 use Rattle.wa_model.specs.declared.flat.Operand.TheVariants.{Local, Const}
-use Rattle.guard_form.specs.Guarded.{raised_plain, raised, GuardIndices, by_state, guarded, sought, noted, index_noted, choice, arm, Exit, each_end, its_end, by_label, nowhere, exit_inside, last_piece, one_more, body_exit, index_with, call_front, call_guarded, front, guarded_body}
+use Rattle.guard_form.specs.Guarded.{raised_plain, raised, GuardIndices, by_state, guarded, sought, noted, index_noted, choice, arm, Exit, its_end, by_label, nowhere, function_end, exit_inside, last_piece, one_more, ends_too, index_with}
+use Rattle.guard_form.specs.Guarded.{call_front, call_guarded, front, sought_first, call_entry, entry, guarded_body}
 use Rattle.guard_form.specs.Pieces.{Units, no_unit, call_unit, nest_unit, if_unit, any_unit, numbers_in, call_to, flat_units, got_any}
 use Rattle.guard_form.specs.Asserts.{assert_code, tested_behind, asserted}
 use Rattle.assert_laws.specs.AssertedUnits.{asserted_units, UnitsUntested, FlatIsAsserted, GuardedIsAsserted, WrittenIsAsserted}
@@ -142,10 +143,18 @@ module _ (t : Callee → Bool) (st : ℕ) where
 
     last_too : (e : Exit) (c : Code) → last_piece i e (put c) ≡ put (last_piece i e c)
     unfolding asserted
-    last_too each_end c = guarded_too c done
     last_too its_end c = guarded_too c done
     last_too (by_label l) c = refl
     last_too nowhere c = refl
+    last_too function_end c = followed_too c (plain return done)
+
+    ends_put : (e : Exit) (own : Bool) (c : Code) → ends_too e own (put c) ≡ put (ends_too e own c)
+    unfolding asserted
+    ends_put e true c = refl
+    ends_put its_end false c = refl
+    ends_put (by_label l) false c = refl
+    ends_put nowhere false c = refl
+    ends_put function_end false c = followed_too c (plain return done)
 
     -- numbers don't change
     numbers_too : (us : Units) → numbers_in (asserted_units t st us) ≡ numbers_in us
@@ -184,12 +193,14 @@ module _ (t : Callee → Bool) (st : ℕ) where
     arm_too (nest_unit s inner body b rest) first code code' e = e
     arm_too (if_unit c fa a fb d b rest) first code code' e = e
 
-    call_guarded_too : (own : Bool) (d k : ℕ) (slots : List ℕ) (x : Callee) (to : Option ℕ) (b : Code) → t x ≡ false
-        → call_guarded i own d k slots x to (put b) ≡ put (call_guarded i own d k slots x to b)
-    call_guarded_too own d k slots x to b e =
-        let c : Code = set_to to (raised 0 (one_more own 0) b) in
-        ap (λ z. slots_got slots (plain (call_to x) (noted i (one_more own d) k (set_to to z)))) (raised_too 0 (one_more own 0) b)
-        ∙ ap (λ z. slots_got slots (plain (call_to x) (noted i (one_more own d) k z))) (set_too to (raised 0 (one_more own 0) b))
+    call_guarded_too : (v : Exit) (own : Bool) (d k : ℕ) (slots : List ℕ) (x : Callee) (to : Option ℕ) (b : Code) → t x ≡ false
+        → call_guarded i v own d k slots x to (put b) ≡ put (call_guarded i v own d k slots x to b)
+    call_guarded_too v own d k slots x to b e =
+        let ended : Code = ends_too v own (raised 0 (one_more own 0) b) in
+        let c : Code = set_to to ended in
+        ap (λ z. slots_got slots (plain (call_to x) (noted i (one_more own d) k (set_to to (ends_too v own z))))) (raised_too 0 (one_more own 0) b)
+        ∙ ap (λ z. slots_got slots (plain (call_to x) (noted i (one_more own d) k (set_to to z)))) (ends_put v own (raised 0 (one_more own 0) b))
+        ∙ ap (λ z. slots_got slots (plain (call_to x) (noted i (one_more own d) k z))) (set_too to ended)
         ∙ ap (λ z. slots_got slots (plain (call_to x) z)) (noted_too (one_more own d) k c)
         ∙ ap (slots_got slots) (call_too x (noted i (one_more own d) k c) e)
         ∙ slots_too slots (plain (call_to x) (noted i (one_more own d) k c))
@@ -204,20 +215,21 @@ module _ (t : Callee → Bool) (st : ℕ) where
 
     call_front_too : (e : Exit) (more : Bool) (k : ℕ) (first : Code) (go go' : Bool → Code) (next next' : Code) → ((own : Bool) → go' own ≡ put (go own)) → next' ≡ put next
         → call_front i e more k (put first) go' next' ≡ put (call_front i e more k first go next)
-    call_front_too each_end more k first go go' next next' ec en = in_own k first (go true) (go' true) next next' (ec true) en
     call_front_too its_end more k first go go' next next' ec en = in_own k first (go true) (go' true) next next' (ec true) en
     call_front_too (by_label l) true k first go go' next next' ec en = in_own k first (go true) (go' true) next next' (ec true) en
     call_front_too (by_label l) false k first go go' next next' ec en = ap (sought i (suc l) 1 k (put first)) (ec false) ∙ sought_too (suc l) 1 k first (go false)
     call_front_too nowhere true k first go go' next next' ec en = in_own k first (go true) (go' true) next next' (ec true) en
     call_front_too nowhere false k first go go' next next' ec en = ap (guarded i (put first)) (ec false) ∙ guarded_too first (go false)
+    call_front_too function_end true k first go go' next next' ec en = in_own k first (go true) (go' true) next next' (ec true) en
+    call_front_too function_end false k first go go' next next' ec en = ap (guarded i (put first)) (ec false) ∙ guarded_too first (go false)
 
     front_too : (e : Exit) (d k : ℕ) (first : Code) (us : Units) → UnitsUntested t us → front i e d k (put first) (asserted_units t st us) ≡ put (front i e d k first us)
     unfolding asserted
     front_too e d k first no_unit h = last_too e first
     front_too e d k first (call_unit slots x to b rest) h =
-        ap (λ m. call_front i e m k (put first) (λ own. call_guarded i own d k slots x to (put b)) (front i e d (suc k) done (asserted_units t st rest))) (any_too rest)
-        ∙ call_front_too e (any_unit rest) k first (λ own. call_guarded i own d k slots x to b) (λ own. call_guarded i own d k slots x to (put b)) (front i e d (suc k) done rest)
-        (front i e d (suc k) done (asserted_units t st rest)) (λ own. call_guarded_too own d k slots x to b h.0) (front_too e d (suc k) done rest h.1)
+        ap (λ m. call_front i e m k (put first) (λ own. call_guarded i e own d k slots x to (put b)) (front i e d (suc k) done (asserted_units t st rest))) (any_too rest)
+        ∙ call_front_too e (any_unit rest) k first (λ own. call_guarded i e own d k slots x to b) (λ own. call_guarded i e own d k slots x to (put b)) (front i e d (suc k) done rest)
+        (front i e d (suc k) done (asserted_units t st rest)) (λ own. call_guarded_too e own d k slots x to b h.0) (front_too e d (suc k) done rest h.1)
     front_too e d k first (nest_unit s inner body b rest) h =
         ap (λ m. guarded i (put first) (nest s None (front i (exit_inside e s m) (suc d) k (put inner) (asserted_units t st body))
         (front i e d (k + numbers_in (asserted_units t st body)) (put b) (asserted_units t st rest)))) (any_too rest)
@@ -260,6 +272,73 @@ module _ (t : Callee → Bool) (st : ℕ) where
         condition : raised 0 1 (followed_by (put first) (got_any c done)) ≡ put (raised 0 1 (followed_by first (got_any c done)))
         condition = ap (λ z. raised 0 1 (followed_by (put first) z)) (got_too c done) ∙ ap (raised 0 1) (followed_too first (got_any c done)) ∙ raised_too 0 1 (followed_by first (got_any c done))
 
+    -- ---- a sequence that a function begins with
+
+    -- other code in the first arm of the first test
+    abbrev with_arm : Code → Code → Code
+    with_arm w done = done
+    with_arm w (plain p (branch r a b c)) = plain p (branch r w b c)
+    with_arm w c = c
+
+    module _ (r : Code → Code) (same : (c : Code) → r (put c) ≡ put (r c)) where
+      -- a test of its own
+      alone_too : (first next : Code) → by_state i.state (r done) (raised 0 1 (put first)) (put next) ≡ put (by_state i.state (r done) (raised 0 1 first) next)
+      unfolding asserted
+      alone_too first next =
+          ap (λ z. by_state i.state z (raised 0 1 (put first)) (put next)) (same done) ∙ ap (λ z. by_state i.state (put (r done)) z (put next)) (raised_too 0 1 first)
+
+      first_too : (l n k : ℕ) (first next : Code) → sought_first i r l n k (put first) (put next) ≡ put (sought_first i r l n k first next)
+      unfolding asserted
+      first_too l n k first next =
+          let tested : Code = index_with i (basic (num I32Ne)) k (plain (br_if l) done) in
+          ap (λ z. by_state i.state z (raised 0 n (put first)) (put next)) (same tested) ∙ ap (λ z. by_state i.state (put (r tested)) z (put next)) (raised_too 0 n first)
+
+      in_first : (k : ℕ) (first : Code) (code code' next next' : Code) → code' ≡ put code → next' ≡ put next
+          → nest a_block None (sought_first i r 1 2 k (put first) code') next' ≡ put (nest a_block None (sought_first i r 1 2 k first code) next)
+      unfolding asserted
+      in_first k first code code' next next' e e2 =
+          ap (λ z. nest a_block None (sought_first i r 1 2 k (put first) z) next') e ∙ ap (λ z. nest a_block None (sought_first i r 1 2 k (put first) (put code)) z) e2
+          ∙ ap (λ z. nest a_block None z (put next)) (first_too 1 2 k first code)
+
+      call_entry_too : (e : Exit) (more : Bool) (k : ℕ) (first : Code) (go go' : Bool → Code) (next next' : Code) → ((own : Bool) → go' own ≡ put (go own)) → next' ≡ put next
+          → call_entry i r e more k (put first) go' next' ≡ put (call_entry i r e more k first go next)
+      call_entry_too its_end more k first go go' next next' ec en = in_first k first (go true) (go' true) next next' (ec true) en
+      call_entry_too (by_label l) true k first go go' next next' ec en = in_first k first (go true) (go' true) next next' (ec true) en
+      call_entry_too (by_label l) false k first go go' next next' ec en = ap (sought_first i r (suc l) 1 k (put first)) (ec false) ∙ first_too (suc l) 1 k first (go false)
+      call_entry_too nowhere true k first go go' next next' ec en = in_first k first (go true) (go' true) next next' (ec true) en
+      call_entry_too nowhere false k first go go' next next' ec en = ap (by_state i.state (r done) (raised 0 1 (put first))) (ec false) ∙ alone_too first (go false)
+      call_entry_too function_end true k first go go' next next' ec en = in_first k first (go true) (go' true) next next' (ec true) en
+      call_entry_too function_end false k first go go' next next' ec en = ap (by_state i.state (r done) (raised 0 1 (put first))) (ec false) ∙ alone_too first (go false)
+
+      -- a test in front of a construct
+      before_too : (e : Exit) (d k : ℕ) (first : Code) (us : Units) → UnitsUntested t us
+          → by_state i.state (r done) (raised 0 1 (put first)) (front i e d k done (asserted_units t st us)) ≡ put (by_state i.state (r done) (raised 0 1 first) (front i e d k done us))
+      unfolding asserted
+      before_too e d k first us h = ap (by_state i.state (r done) (raised 0 1 (put first))) (front_too e d k done us h) ∙ alone_too first (front i e d k done us)
+
+      entry_too : (e : Exit) (d k : ℕ) (first : Code) (us : Units) → UnitsUntested t us → entry i r e d k (put first) (asserted_units t st us) ≡ put (entry i r e d k first us)
+      unfolding asserted
+      entry_too e d k first no_unit h = ap (by_state i.state (r done) done) (last_too e first) ∙ alone_too done (last_piece i e first)
+      entry_too e d k first (call_unit slots x to b rest) h =
+          ap (λ m. call_entry i r e m k (put first) (λ own. call_guarded i e own d k slots x to (put b)) (front i e d (suc k) done (asserted_units t st rest))) (any_too rest)
+          ∙ call_entry_too e (any_unit rest) k first (λ own. call_guarded i e own d k slots x to b) (λ own. call_guarded i e own d k slots x to (put b)) (front i e d (suc k) done rest)
+          (front i e d (suc k) done (asserted_units t st rest)) (λ own. call_guarded_too e own d k slots x to b h.0) (front_too e d (suc k) done rest h.1)
+      entry_too e d k done (nest_unit a_block inner body b rest) h =
+          ap (λ m. nest a_block None (entry i r (exit_inside e a_block m) (suc d) k (put inner) (asserted_units t st body))
+          (front i e d (k + numbers_in (asserted_units t st body)) (put b) (asserted_units t st rest))) (any_too rest)
+          ∙ ap (λ n. nest a_block None (entry i r (exit_inside e a_block (any_unit rest)) (suc d) k (put inner) (asserted_units t st body))
+          (front i e d (k + n) (put b) (asserted_units t st rest))) (numbers_too body)
+          ∙ ap (λ z. nest a_block None z (front i e d (k + numbers_in body) (put b) (asserted_units t st rest))) (entry_too (exit_inside e a_block (any_unit rest)) (suc d) k inner body h.0)
+          ∙ ap (nest a_block None (put (entry i r (exit_inside e a_block (any_unit rest)) (suc d) k inner body))) (front_too e d (k + numbers_in body) b rest h.1)
+      entry_too e d k done (nest_unit a_loop inner body b rest) h = before_too e d k done (nest_unit a_loop inner body b rest) h
+      entry_too e d k (plain p c) (nest_unit s inner body b rest) h = before_too e d k (plain p c) (nest_unit s inner body b rest) h
+      entry_too e d k (nest y o z c) (nest_unit s inner body b rest) h = before_too e d k (nest y o z c) (nest_unit s inner body b rest) h
+      entry_too e d k (branch o y z c) (nest_unit s inner body b rest) h = before_too e d k (branch o y z c) (nest_unit s inner body b rest) h
+      entry_too e d k first (if_unit c fa a fb b h2 rest) h =
+          let whole : Code = front i e d k first (if_unit c fa a fb b h2 rest) in
+          ap (with_arm (r (choice i k (asserted_units t st a) (asserted_units t st b)))) (front_too e d k first (if_unit c fa a fb b h2 rest) h)
+          ∙ ap (λ z. with_arm z (put whole)) (ap r (choice_too k a b) ∙ same (choice i k a b))
+
   -- ---- code that makes no call
 
   none_front : (xs ys : List Callee) → xs ++ ys ≡ [] → (xs ≡ []) × (ys ≡ [])
@@ -288,12 +367,12 @@ pub flat_law : FlatIsAsserted
 flat_law t st first us h = ap (followed_by (asserted t st first)) (flat_too t st us h) ∙ followed_too t st first (flat_units us)
 
 pub guarded_law : GuardedIsAsserted
-guarded_law t st i exits first us h = front_too t st i (body_exit exits) 0 0 first us h
+guarded_law t st i restoring first us h e =
+    entry_too t st i (followed_by restoring)
+    (λ c. ap (λ z. followed_by z (asserted t st c)) (no_calls t st restoring e) ∙ followed_too t st restoring c) function_end 0 0 first us h
 
 pub written_law : WrittenIsAsserted
 unfolding asserted
-written_law t st i exits restoring saving result first us h e1 e2 e3 =
-    ap (λ z. by_state i.state restoring done (nest a_block None z (by_state i.state saving done result))) (guarded_law t st i exits first us h)
-    ∙ ap (λ z. by_state i.state z done (nest a_block None (asserted t st (guarded_body i exits first us)) (by_state i.state saving done result))) (no_calls t st restoring e1)
-    ∙ ap (λ z. by_state i.state (asserted t st restoring) done (nest a_block None (asserted t st (guarded_body i exits first us)) (by_state i.state z done result))) (no_calls t st saving e2)
-    ∙ ap (λ z. by_state i.state (asserted t st restoring) done (nest a_block None (asserted t st (guarded_body i exits first us)) (by_state i.state (asserted t st saving) done z))) (no_calls t st result e3)
+written_law t st i restoring saving first us h e1 e2 =
+    ap (λ z. nest a_block None z saving) (guarded_law t st i restoring first us h e1)
+    ∙ ap (nest a_block None (asserted t st (guarded_body i (followed_by restoring) first us))) (no_calls t st saving e2)

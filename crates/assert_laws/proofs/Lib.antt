@@ -14,6 +14,7 @@ pub mod FunctionsWithAsserts
 pub mod GuardedAsserts
 pub mod LengthWithAsserts
 pub mod ModuleWithAsserts
+pub mod OwnUnits
 pub mod ReadsWithAsserts
 pub mod Running
 pub mod SizesWithAsserts

@@ -158,7 +158,7 @@ module _ (m : Module) (s : Settings) (which : List Bool) (codes : (index : ℕ) 
         let k = calls_weigh in
         let z = written_size m s which codes x f (hold x f is b).slim in omega arith
 
-    pub asserted_depth : depth_of (written_with x f).body ≤ depth_of (pruned f.body) + 4
+    pub asserted_depth : depth_of (written_with x f).body ≤ depth_of (pruned f.body) + 7
     asserted_depth =
         let owed = hold x f is b in
         let a = depths_grow (λ y. not (has_number m s which y)) (global_space m) (written_by m s which codes x f).body in

@@ -1,13 +1,11 @@
 -- What comes back stands beside the same operands, and beside own locals that differ only where no path reads first.
-use Rattle.std.proofs.Common.{◌≡◌, ℕ, zero, suc, ◌+◌, ◌<◌, ◌≤◌, ◌⊎◌, inl, inr, List, [], ◌∷◌, ◌++◌, length, map, take, drop, reverse, Option, Some, None, Bool, true, false, ◌&&◌, refl, sym, ap, ◌∙◌, subst, arith, length-append, ⊎_elim}
+use Rattle.std.proofs.Common.{◌≡◌, ℕ, zero, suc, ◌+◌, ◌<◌, ◌≤◌, ◌⊎◌, inl, inr, List, [], ◌∷◌, ◌++◌, length, map, take, drop, reverse, Option, Some, Bool, true, false, refl, sym, ap, ◌∙◌, subst, arith, length-append}
 use Rattle.std.specs.Prelude.{slice_get}
 use Rattle.std.proofs.lemmas.Bool.{cases_lt}
 use Rattle.std.proofs.lemmas.List.{get_or-take, get_or_append_left, get_or_past, length-drop, length-map, length-take-le, take-append-drop}
-use Rattle.wa_types.specs.Encoding.{same_type}
-use Rattle.wa_types.specs.Frames.{Pair, Place, Saved, SlotPairs, is_on_stack, is_type, named_places, place_onto, same_pair, slot_places, stands_at}
+use Rattle.wa_types.specs.Frames.{Pair, Place, SlotPairs, is_on_stack, is_type, named_places, place_onto, same_pair, slot_places}
 use Rattle.wa_types.specs.Liveness.{Position, ReadsFirst, behind_calls, is_live_after, live_from}
 use Rattle.wa_types.specs.Modules.{defined_at, locals_of}
-use Rattle.wa_types.specs.Pausing.{save_live}
 use Rattle.wa_types.specs.Points.{func_call_points}
 use Rattle.wa_types.specs.Pruned.{pruned}
 use Rattle.wa_types.specs.Syntax.{Func, Module}

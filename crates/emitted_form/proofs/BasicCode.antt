@@ -4,9 +4,9 @@ use Rattle.std.specs.Prelude.{slice_get, ◌||◌, if◌then◌else◌}
 use Rattle.wa_types.specs.declared.values.ValType.{ValType}
 use Rattle.wa_types.specs.declared.values.ValType.TheVariants.{I32, I64}
 use Rattle.wa_types.specs.declared.values.Value.TheVariants as V
-use Rattle.wa_types.specs.declared.operators.NumOp.TheVariants.{I32LtU, I32Sub}
+use Rattle.wa_types.specs.declared.operators.NumOp.TheVariants.{I32Ne, I32LtU, I32Sub}
 use Rattle.wa_types.specs.Sizes.{value_fits, BasicFits, PlainFits, CodeFits}
-use Rattle.wa_types.specs.Syntax.{basic, num, const, global_get, local_get, local_set, local_tee, br, br_if, br_table, return, unreachable, call, call_indirect, Plain, a_block, Code, done, plain, nest, branch}
+use Rattle.wa_types.specs.Syntax.{basic, num, const, global_get, local_get, local_set, local_tee, br, br_if, br_table, return, unreachable, call, call_indirect, Plain, a_block, a_loop, Code, done, plain, nest, branch}
 use Rattle.wa_types.specs.Frames.{width}
 use Rattle.wa_types.specs.Pausing.{Callee, direct, indirect}
 use Rattle.wa_types.specs.Points.{after}
@@ -15,11 +15,13 @@ use Rattle.wa_model.specs.declared.flat.Operand.{Operand}
 use Rattle.wa_model.specs.declared.flat.Operand.TheVariants.{Local, Const}
 use Rattle.run_theory.specs.Flat.{Stmts, no_more, computes, copies, calls, leaps, leaps_if, leaps_by, nests, decides, halts, followed_by, got, all_got, set_to, slots_got, last_of, code_of, result_got}
 use Rattle.flat_laws.specs.Flatten.{Names, top, carry_to, carry, carry_all, arrive, flat_plain, flat}
+use Rattle.frame_laws.specs.Function.{value_code}
 use Rattle.frame_laws.specs.Layout.{FrameField, kept, gap, fields_size, placed, Layout, save_code, restore_code}
 use Rattle.local_spill.specs.Spilling.{stored_value, loaded_value, locals_stored, locals_loaded}
 use Rattle.local_spill.specs.Spilling as Spilling
 use Rattle.guard_form.specs.Pieces.{Units, no_unit, call_unit, nest_unit, if_unit, any_unit, numbers_in, call_to, got_any, numbered, holds_call, call_total, piece_call, first_piece, unit_call, units}
-use Rattle.guard_form.specs.Guarded.{GuardIndices, raised_plain, raised, guarded, sought, one_more, index_noted, noted, call_guarded, choice, arm, Exit, each_end, its_end, by_label, nowhere, exit_inside, last_piece, call_front, front}
+use Rattle.guard_form.specs.Guarded.{GuardIndices, raised_plain, raised, guarded, sought, one_more, by_state, index_with, index_noted, noted, ends_too, call_guarded, choice, arm, Exit, its_end, by_label, nowhere, function_end, exit_inside, last_piece}
+use Rattle.guard_form.specs.Guarded.{call_front, front, sought_first, call_entry, entry, guarded_body, block_unit}
 
 -- what a basic instruction holds is in range
 abbrev pub PlainBasic : Plain → Type 0
@@ -280,19 +282,27 @@ module _ (i : GuardIndices) (small : i.state < 2 ^ 32) where
       index_fits false g = (l, (tt, g))
 
   last_fits : (e : Exit) (c : Code) → BasicsFit c → BasicsFit (last_piece i e c)
-  last_fits each_end c h = guarded_fits c done h tt
   last_fits its_end c h = guarded_fits c done h tt
   last_fits (by_label l) c h = h
   last_fits nowhere c h = h
+  last_fits function_end c h = followed_fits c (plain return done) h (tt, tt)
+
+  ends_fit : (e : Exit) (own : Bool) (c : Code) → BasicsFit c → BasicsFit (ends_too e own c)
+  ends_fit e true c h = h
+  ends_fit its_end false c h = h
+  ends_fit (by_label l) false c h = h
+  ends_fit nowhere false c h = h
+  ends_fit function_end false c h = followed_fits c (plain return done) h (tt, tt)
 
   call_fits : (e : Exit) (any : Bool) (k : ℕ) (first : Code) (call_of : Bool → Code) (next : Code) → k < 2 ^ 32 → BasicsFit first → ((own : Bool) → BasicsFit (call_of own)) → BasicsFit next
       → BasicsFit (call_front i e any k first call_of next)
-  call_fits each_end any k first call_of next l h c g = (sought_fits 1 2 k first (call_of true) l h (c true), g)
   call_fits its_end any k first call_of next l h c g = (sought_fits 1 2 k first (call_of true) l h (c true), g)
   call_fits (by_label label) true k first call_of next l h c g = (sought_fits 1 2 k first (call_of true) l h (c true), g)
   call_fits (by_label label) false k first call_of next l h c g = sought_fits (suc label) 1 k first (call_of false) l h (c false)
   call_fits nowhere true k first call_of next l h c g = (sought_fits 1 2 k first (call_of true) l h (c true), g)
   call_fits nowhere false k first call_of next l h c g = guarded_fits first (call_of false) h (c false)
+  call_fits function_end true k first call_of next l h c g = (sought_fits 1 2 k first (call_of true) l h (c true), g)
+  call_fits function_end false k first call_of next l h c g = guarded_fits first (call_of false) h (c false)
 
   choice_fits : (k : ℕ) (a b : Units) → k + numbers_in a < 2 ^ 32 → BasicsFit (choice i k a b)
   choice_fits k a no_unit l = (omega arith, tt)
@@ -319,11 +329,17 @@ module _ (i : GuardIndices) (small : i.state < 2 ^ 32) where
   call_basic (direct x) = tt
   call_basic (indirect sort) = tt
 
+  called_fits : (e : Exit) (own : Bool) (d k : ℕ) (xs : List ℕ) (x : Callee) (to : Option ℕ) (behind : Code) → k < 2 ^ 32 → BasicsFit behind
+      → BasicsFit (call_guarded i e own d k xs x to behind)
+  called_fits e own d k xs x to behind l h =
+      let ended : Code = ends_too e own (raised 0 (one_more own 0) behind) in
+      slots_fit xs _ (call_basic x, noted_fits (one_more own d) k _ l (set_fits to ended (ends_fit e own (raised 0 (one_more own 0) behind) (raised_fits 0 (one_more own 0) behind h))))
+
   pub front_fits : (e : Exit) (d k : ℕ) (first : Code) (us : Units) → k + numbers_in us < 2 ^ 32 → BasicsFit first → UnitsBasic us → BasicsFit (front i e d k first us)
   front_fits e d k first no_unit l h u = last_fits e first h
   front_fits e d k first (call_unit xs x to behind rest) l h u =
-      call_fits e (any_unit rest) k first (λ own. call_guarded i own d k xs x to behind) (front i e d (suc k) done rest) (omega (arith, l)) h
-      (λ own. slots_fit xs _ (call_basic x, noted_fits (one_more own d) k _ (omega (arith, l)) (set_fits to (raised 0 (one_more own 0) behind) (raised_fits 0 (one_more own 0) behind u.0))))
+      call_fits e (any_unit rest) k first (λ own. call_guarded i e own d k xs x to behind) (front i e d (suc k) done rest) (omega (arith, l)) h
+      (λ own. called_fits e own d k xs x to behind (omega (arith, l)) u.0)
       (front_fits e d (suc k) done rest (omega (arith, l)) tt u.1)
   front_fits e d k first (nest_unit s inner body behind rest) l h u =
       guarded_fits first _ h
@@ -340,6 +356,55 @@ module _ (i : GuardIndices) (small : i.state < 2 ^ 32) where
       ),
     ),
   )
+
+  -- a sequence that a function begins with
+  module _ (h : Code → Code) (fits : (c : Code) → BasicsFit c → BasicsFit (h c)) where
+    restoring_alone : (first next : Code) → BasicsFit first → BasicsFit next → BasicsFit (by_state i.state (h done) (raised 0 1 first) next)
+    restoring_alone first next f g = (small, (fits done tt, raised_fits 0 1 first f, g))
+
+    sought_first_fits : (label by k : ℕ) (first next : Code) → k < 2 ^ 32 → BasicsFit first → BasicsFit next → BasicsFit (sought_first i h label by k first next)
+    sought_first_fits label by k first next l f g =
+        (small, (fits (index_with i (basic (num I32Ne)) k (plain (br_if label) done)) (tt, (l, (tt, (tt, tt)))), raised_fits 0 by first f, g))
+
+    call_entry_fits : (e : Exit) (any : Bool) (k : ℕ) (first : Code) (call_of : Bool → Code) (next : Code) → k < 2 ^ 32 → BasicsFit first → ((own : Bool) → BasicsFit (call_of own)) → BasicsFit next
+        → BasicsFit (call_entry i h e any k first call_of next)
+    call_entry_fits its_end any k first call_of next l f c g = (sought_first_fits 1 2 k first (call_of true) l f (c true), g)
+    call_entry_fits (by_label label) true k first call_of next l f c g = (sought_first_fits 1 2 k first (call_of true) l f (c true), g)
+    call_entry_fits (by_label label) false k first call_of next l f c g = sought_first_fits (suc label) 1 k first (call_of false) l f (c false)
+    call_entry_fits nowhere true k first call_of next l f c g = (sought_first_fits 1 2 k first (call_of true) l f (c true), g)
+    call_entry_fits nowhere false k first call_of next l f c g = restoring_alone first (call_of false) f (c false)
+    call_entry_fits function_end true k first call_of next l f c g = (sought_first_fits 1 2 k first (call_of true) l f (c true), g)
+    call_entry_fits function_end false k first call_of next l f c g = restoring_alone first (call_of false) f (c false)
+
+    entry_fits : (e : Exit) (d k : ℕ) (first : Code) (us : Units) → k + numbers_in us < 2 ^ 32 → BasicsFit first → UnitsBasic us → BasicsFit (entry i h e d k first us)
+    entry_fits e d k first no_unit l f u = restoring_alone done (last_piece i e first) tt (last_fits e first f)
+    entry_fits e d k first (call_unit xs x to behind rest) l f u =
+        call_entry_fits e (any_unit rest) k first (λ own. call_guarded i e own d k xs x to behind) (front i e d (suc k) done rest) (omega (arith, l)) f
+        (λ own. called_fits e own d k xs x to behind (omega (arith, l)) u.0)
+        (front_fits e d (suc k) done rest (omega (arith, l)) tt u.1)
+    entry_fits e d k done (nest_unit a_block inner body behind rest) l f u =
+        (entry_fits (exit_inside e a_block (any_unit rest)) (suc d) k inner body (omega (arith, l)) u.0 u.1, front_fits e d (k + numbers_in body) behind rest (omega (arith, l)) u.2 u.3)
+    entry_fits e d k done (nest_unit a_loop inner body behind rest) l f u =
+        restoring_alone done (front i e d k done (nest_unit a_loop inner body behind rest)) tt (front_fits e d k done (nest_unit a_loop inner body behind rest) l tt u)
+    entry_fits e d k (plain p c) (nest_unit s inner body behind rest) l f u =
+        restoring_alone (plain p c) (front i e d k done (nest_unit s inner body behind rest)) f (front_fits e d k done (nest_unit s inner body behind rest) l tt u)
+    entry_fits e d k (nest t r y c) (nest_unit s inner body behind rest) l f u =
+        restoring_alone (nest t r y c) (front i e d k done (nest_unit s inner body behind rest)) f (front_fits e d k done (nest_unit s inner body behind rest) l tt u)
+    entry_fits e d k (branch r y z c) (nest_unit s inner body behind rest) l f u =
+        restoring_alone (branch r y z c) (front i e d k done (nest_unit s inner body behind rest)) f (front_fits e d k done (nest_unit s inner body behind rest) l tt u)
+    entry_fits e d k first (if_unit c fa a fb b behind rest) l f u =
+        let whole = front_fits e d k first (if_unit c fa a fb b behind rest) l f u in
+        (small, (fits (choice i k a b) (choice_fits k a b (omega (arith, l))), (whole.1).1, (whole.1).2))
+
+    -- the body of a function, of which this is the own block
+    pub body_fits : (first : Code) (us : Units) (result : Option ℕ) → numbers_in us < 2 ^ 32 → BasicsFit first → UnitsBasic us → BasicsFit (guarded_body i h done (block_unit first us result))
+    body_fits first us result l f u = entry_fits function_end 0 0 done (block_unit first us result) (omega (arith, l)) tt (f, u, result_fits result, tt)
+
+-- a value for a result
+pub result_value_fits : (t : Option ValType) → BasicsFit (value_code t)
+result_value_fits None = tt
+result_value_fits (Some I32) = (omega arith, tt)
+result_value_fits (Some I64) = (omega arith, tt)
 
 -- ---- frames
 

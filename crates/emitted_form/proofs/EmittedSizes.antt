@@ -30,6 +30,7 @@ use Rattle.flat_laws.proofs.Calls.{calls_stay}
 use Rattle.flat_laws.proofs.Whole.{meets}
 use Rattle.flat_laws.specs.Flatten.{flattened}
 use Rattle.flat_laws.specs.FlatModule.{extra_types}
+use Rattle.frame_laws.specs.Function.{result_type, value_code}
 use Rattle.guard_form.specs.Functions.{indices_of}
 use Rattle.guard_form.proofs.Grouped.{joins_law}
 use Rattle.run_theory.proofs.GrownSteps.{front}
@@ -41,7 +42,7 @@ use Rattle.emitted_form.specs.EmittedBy.{FrameCode, guarded_by, written_by, func
 use Rattle.emitted_form.specs.Sizes.{FewWritten, EmittedKeepsSizes}
 use Rattle.emitted_form.proofs.EmittedBy.{defined_of, defined_where, sort_of, inner, emitted, runtime, told, not_told, same_sorts, same_length, funcs_are}
 use Rattle.emitted_form.proofs.EmittedRewritten.{same_exports}
-use Rattle.emitted_form.proofs.Marks.{Marking, marks_of, marks_slim, marks_written, call_marking, calls_are, table_marking, tables_few, lists_few}
+use Rattle.emitted_form.proofs.Marks.{Marking, marks_of, marks_then, marks_slim, marks_value, marks_written, call_marking, calls_are, table_marking, tables_few, lists_few}
 use Rattle.emitted_form.proofs.SizesBy.{written_size}
 use Rattle.emitted_form.proofs.WrittenSizes.{layout_size, layouts_hold}
 
@@ -195,12 +196,16 @@ module _ (m : Module) (s : Settings) (which : List Bool) (codes : (index : ℕ) 
     no_marks : {X : Type 0} (k : Marking X) → marks_of k (codes x f).restoring ≡ [] → marks_of k (codes x f).saving ≡ [] → marks_of k g.body ≡ marks_of k (code_of (flattened m x f).body)
     no_marks k er es =
         let gf = guarded_by m s which codes x f in
-        marks_written k (indices_of (global_space m) gf) gf.restoring gf.saving gf.result gf.exits gf.first gf.body er es
+        let ps = (codes x f).pieces in
+        let result = (flattened m x f).result in
+        let first0 = first_piece (Numbered m s which f) 0 (flattened m x f).body in
+        let units0 = units (Numbered m s which f) 0 (flattened m x f).body in
+        marks_written k (indices_of (global_space m) gf) (codes x f).restoring gf.saving result ps.first ps.units er
+        (marks_then k (codes x f).saving (value_code (result_type (flattened m x f).locals result)) ∙ ap (λ z. z ++ marks_of k (value_code (result_type (flattened m x f).locals result))) es
+        ∙ marks_value k (result_type (flattened m x f).locals result))
         ∙ marks_slim k (flat_terms m (Numbered m s which f) x f) 0 (owed.slim.out ∷ []) owed.slim.out owed.slim.here []
-        (followed_by (first_piece (Numbered m s which f) 0 (flattened m x f).body) (flat_units (units (Numbered m s which f) 0 (flattened m x f).body)))
-        (followed_by gf.first (flat_units gf.body))
-        (units_law (flat_terms m (Numbered m s which f) x f) 0 (owed.slim.out ∷ []) owed.slim.out owed.slim.here []
-        (first_piece (Numbered m s which f) 0 (flattened m x f).body) gf.first (units (Numbered m s which f) 0 (flattened m x f).body) gf.body owed.slim.slim)
+        (followed_by first0 (flat_units units0)) (followed_by ps.first (flat_units ps.units))
+        (units_law (flat_terms m (Numbered m s which f) x f) 0 (owed.slim.out ∷ []) owed.slim.out owed.slim.here [] first0 ps.first units0 ps.units owed.slim.slim)
         ∙ ap (marks_of k) (joins_law (Numbered m s which f) 0 (flattened m x f).body)
 
     -- its calls are those of the pruned body, in their order

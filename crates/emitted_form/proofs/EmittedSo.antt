@@ -9,12 +9,12 @@ use Rattle.wa_types.specs.Modules.{declared_locals, defined_at, func_imports, lo
 use Rattle.wa_types.specs.Pausing.{Callee, Numbered, Settings, TellsMayPause, calls_in, has_number, is_told, places_from}
 use Rattle.wa_types.specs.Runtime.{global_space, runtime_funcs, with_runtime}
 use Rattle.wa_types.specs.Sizes.{StrictSizeRule}
-use Rattle.wa_types.specs.Syntax.{Func, Module}
+use Rattle.wa_types.specs.Syntax.{done, Func, Module}
 use Rattle.wa_types.specs.Validity.{Valid}
 use Rattle.wa_types.specs.declared.syntax.Run.{Run}
 use Rattle.wa_types.specs.declared.values.ValType.{ValType}
 use Rattle.wa_types.specs.declared.values.ValType.TheVariants.{I32, I64}
-use Rattle.run_theory.specs.Flat.{FlatFunc}
+use Rattle.run_theory.specs.Flat.{FlatFunc, followed_by}
 use Rattle.run_theory.specs.FlatFits.{one_run}
 use Rattle.run_theory.specs.Quiet.{FreeOfNames}
 use Rattle.flat_laws.specs.FlatModule.{extra_types, flat_func, stacks_in}
@@ -23,7 +23,9 @@ use Rattle.flat_laws.proofs.FlatModules.{is_flat}
 use Rattle.flat_laws.proofs.RuntimeModules.{base_flattened, base_names, base_results, base_slots}
 use Rattle.flat_laws.proofs.Calls.{calls_stay}
 use Rattle.flat_laws.proofs.Whole.{counted, meets}
+use Rattle.frame_laws.specs.Function.{result_type, value_code}
 use Rattle.guard_form.specs.Functions.{GuardedFunc, with_guards, written_code}
+use Rattle.guard_form.specs.Guarded.{block_unit}
 use Rattle.guard_form.specs.Pieces.{first_piece, units}
 use Rattle.slim_laws.specs.Slim.{Terms}
 use Rattle.slim_laws.specs.SlimUnitLaws.{ToHeld}
@@ -91,7 +93,14 @@ module _ (m : Module) (s : Settings) (which : List Bool) (codes : (index : ℕ) 
     same_flat = base_flattened m valid x f is
 
     abbrev guards : FlatFunc → FrameCode → GuardedFunc
-    guards z c = record { size = length z.locals; exits = c.pieces.exits; restoring = c.restoring; saving = c.saving; result = z.result; first = c.pieces.first; body = c.pieces.units }
+    guards z c = record {
+      size = length z.locals;
+      exits = c.pieces.exits;
+      restoring = c.restoring;
+      saving = followed_by c.saving (value_code (result_type z.locals z.result));
+      first = done;
+      body = block_unit c.pieces.first c.pieces.units z.result;
+    }
 
     same_guarded : guarded_by m s which codes x f ≡ guarded_of m s which frames x f
     same_guarded =

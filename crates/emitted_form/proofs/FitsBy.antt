@@ -18,13 +18,13 @@ use Rattle.wa_types.specs.Typing.{Around, listed, sig, label}
 use Rattle.wa_types.specs.Validity.{Valid}
 use Rattle.wa_types.proofs.SizeBounds.{weight_fits}
 use Rattle.wa_model.specs.declared.flat.Operand.TheVariants.{Local}
-use Rattle.run_theory.specs.Flat.{Stmts, no_more, computes, copies, calls, leaps, leaps_if, leaps_by, nests, decides, halts, last_of}
+use Rattle.run_theory.specs.Flat.{Stmts, no_more, computes, copies, calls, leaps, leaps_if, leaps_by, nests, decides, halts, followed_by, last_of}
 use Rattle.run_theory.specs.FlatFits.{one_run}
 use Rattle.wa_model.specs.Rewrites.{instructions_and_labels}
 use Rattle.flat_laws.specs.Flatten.{Names, names, top, carry_to, carry, carry_all, arrive, flat_plain, flat, flattened}
 use Rattle.flat_laws.specs.FlatModule.{extra_types}
+use Rattle.frame_laws.specs.Function.{result_type, value_code}
 use Rattle.guard_form.specs.Functions.{GuardedFunc, indices_of}
-use Rattle.guard_form.specs.Guarded.{body_exit}
 use Rattle.guard_form.specs.Pieces.{Units, nest_unit, if_unit, numbers_in, numbered, holds_call, call_total, first_piece, unit_call, units}
 use Rattle.emitted_form.specs.CodesHold.{AllCodesHold, CodesHold, three}
 use Rattle.emitted_form.specs.EmittedBy.{FrameCode, guarded_by, written_by, func_by, funcs_by, asyncified_by}
@@ -33,10 +33,10 @@ use Rattle.emitted_form.proofs.EmittedBy.{defined_of, inner, emitted, told, not_
 use Rattle.emitted_form.proofs.EmittedRewritten.{sort_there}
 use Rattle.emitted_form.proofs.SizesBy.{code_weighs, written_depth}
 use Rattle.emitted_form.proofs.WrittenBy.{written_length, written_typed}
-use Rattle.emitted_form.proofs.BasicCode.{BasicsFit, StmtsBasic, fits_basic, flat_fits, first_fits, units_fit, result_fits, front_fits}
+use Rattle.emitted_form.proofs.BasicCode.{BasicsFit, StmtsBasic, fits_basic, flat_fits, first_fits, units_fit, followed_fits, result_value_fits, body_fits}
 use Rattle.emitted_form.proofs.GrownFits.{grown_fits}
 use Rattle.emitted_form.proofs.SlimCode.{units_basic}
-use Rattle.slim_laws.specs.SlimModule.{flat_terms}
+use Rattle.slim_laws.specs.SlimModule.{Pieces, flat_terms}
 use Rattle.slim_laws.proofs.UnitsAlike.{units_alike}
 use Rattle.emitted_form.proofs.Spaces.{funcs_counted, globals_counted}
 use Rattle.emitted_form.proofs.TypedCode.{AroundFew, typed_fits}
@@ -170,16 +170,19 @@ module _ (m : Module) (s : Settings) (which : List Bool) (codes : (index : ℕ) 
     abbrev gf : GuardedFunc
     gf = guarded_by m s which codes x f
 
+    abbrev ps : Pieces
+    ps = (codes x f).pieces
+
     globals_small : global_space m < 2 ^ 31
     globals_small = omega (arith, globals_counted m, strict.globals)
 
     stmts : StmtsBasic (flattened m x f).body
     stmts = flat_fits (names m f) (around m f) ((around m f).result ∷ []) f.body [] (fits_basic f.body fits.body)
 
-    numbers_small : numbers_in gf.body < 2 ^ 32
+    numbers_small : numbers_in ps.units < 2 ^ 32
     numbers_small =
         let z = (units_alike (flat_terms m (Numbered m s which f) x f) 0 (owed.slim.out ∷ []) owed.slim.out owed.slim.here []
-        (first_piece (Numbered m s which f) 0 (flattened m x f).body) gf.first (units (Numbered m s which f) 0 (flattened m x f).body) gf.body owed.slim.slim).numbers in
+        (first_piece (Numbered m s which f) 0 (flattened m x f).body) ps.first (units (Numbered m s which f) 0 (flattened m x f).body) ps.units owed.slim.slim).numbers in
         let a = numbers_few (Numbered m s which f) 0 (flattened m x f).body in
         let b = flat_few (names m f) (around m f) ((around m f).result ∷ []) f.body [] in
         omega (arith, z, a, b, sizes.total)
@@ -188,12 +191,16 @@ module _ (m : Module) (s : Settings) (which : List Bool) (codes : (index : ℕ) 
     written_basic =
         let st = globals_small in
         let state : global_space m < 2 ^ 32 = omega (arith, st) in
+        let result = (flattened m x f).result in
+        let value = value_code (result_type (flattened m x f).locals result) in
         let both =
         units_basic (flat_terms m (Numbered m s which f) x f) 0 (owed.slim.out ∷ []) owed.slim.out owed.slim.here []
-        (first_piece (Numbered m s which f) 0 (flattened m x f).body) gf.first (units (Numbered m s which f) 0 (flattened m x f).body) gf.body owed.slim.slim
-        (first_fits (Numbered m s which f) 0 (flattened m x f).body stmts) (units_fit (Numbered m s which f) 0 (flattened m x f).body stmts) in
-        let guarded = front_fits (indices_of (global_space m) gf) state (body_exit gf.exits) 0 0 gf.first gf.body (omega (arith, numbers_small)) both.0 both.1 in
-        (state, (basics.0, tt, (guarded, (state, (basics.1, tt, result_fits (flattened m x f).result)))))
+        (first_piece (Numbered m s which f) 0 (flattened m x f).body) ps.first (units (Numbered m s which f) 0 (flattened m x f).body) ps.units owed.slim.slim
+        (first_fits (Numbered m s which f) 0 (flattened m x f).body stmts) (units_fit (Numbered m s which f) 0 (flattened m x f).body stmts) in (
+          body_fits (indices_of (global_space m) gf) state (followed_by (codes x f).restoring) (λ c h. followed_fits (codes x f).restoring c basics.0 h) ps.first ps.units result numbers_small both.0
+              both.1,
+          followed_fits (codes x f).saving value basics.1 (result_value_fits (result_type (flattened m x f).locals result)),
+        )
 
     depth_small : 1 + depth_of g.body ≤ 2 ^ 32
     depth_small =

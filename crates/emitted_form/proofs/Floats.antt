@@ -1,6 +1,6 @@
 -- Sections that are a module hold no float.
-use Rattle.std.proofs.Common.{◌≡◌, ◌∙◌, ℕ, ◌+◌, ◌<◌, ◌≤◌, ◌⊎◌, inl, inr, List, [], ◌∷◌, ◌++◌, length, map, Bool, true, false, Option, Some, None, All, refl, sym, ap, arith}
-use Rattle.std.specs.Prelude.{nat_le, ◌||◌, not, IsTrue}
+use Rattle.std.proofs.Common.{◌≡◌, ◌∙◌, ℕ, ◌<◌, inl, inr, List, [], ◌∷◌, ◌++◌, Bool, true, false, Option, Some, None, All, refl, ap, arith}
+use Rattle.std.specs.Prelude.{nat_le, ◌||◌, not}
 use Rattle.std.specs.List.{AllZip, flat_map}
 use Rattle.std.proofs.lemmas.Bool.{and_parts, leb-true, or_cases, or_left, or_right}
 use Rattle.std.proofs.lemmas.List.Elements.{All-nil, All-cons, All-head, All-tail}
@@ -17,11 +17,11 @@ use Rattle.wa_types.specs.declared.syntax.Run.{Run}
 use Rattle.wa_types.specs.Marks.{place_if, float_type, code_floats, type_floats, kind_floats, body_floats, section_floats, floats}
 use Rattle.wa_types.specs.Opcodes.{within, is_float_type, is_float_op, is_load_op, is_store_op, plain_opcode}
 use Rattle.wa_types.specs.Operators.{opcode_of}
-use Rattle.wa_types.specs.Reading.{HasKind, IsPlain, IsCode, IsValueType, IsFuncType, IsKind, IsImport, IsGlobal, IsElem, IsRun, IsBody, IsSegment, types_in, imports_in}
+use Rattle.wa_types.specs.Reading.{HasKind, IsCode, IsValueType, IsFuncType, IsKind, IsImport, IsGlobal, IsElem, IsRun, IsBody, IsSegment, types_in, imports_in}
 use Rattle.wa_types.specs.Reading.{globals_in, elements_in, segments_in, IsModule}
 use Rattle.wa_types.specs.Spells.{bodies_in}
-use Rattle.wa_types.specs.Syntax.{Basic, nop, drop, select, const, num, global_get, global_set, load, store, memory_size, memory_grow, memory_copy, memory_fill, Plain, basic, local_get, local_set, local_tee, br}
-use Rattle.wa_types.specs.Syntax.{br_if, br_table, return, unreachable, call, call_indirect, Code, done, plain, nest, branch, FuncType, Func, GlobalDef, Elem, Segment, Module}
+use Rattle.wa_types.specs.Syntax.{nop, drop, select, const, num, global_get, global_set, load, store, memory_size, memory_grow, memory_copy, memory_fill, Plain, basic, local_get, local_set, local_tee, br}
+use Rattle.wa_types.specs.Syntax.{br_if, br_table, return, unreachable, call, call_indirect, Code, done, plain, nest, branch, Module}
 use Rattle.wa_types.proofs.Ranges.{all_from, passes}
 use Rattle.wasm_reader.proofs.ModulesMade.{join_clear}
 

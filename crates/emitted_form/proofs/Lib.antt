@@ -4,6 +4,7 @@ pub mod BasicCode
 pub mod ByCallFramed
 pub mod BytesByPolicy
 pub mod CallCounts
+pub mod CallTails
 pub mod ChosenStacks
 pub mod CodeAlone
 pub mod EmittedBy

@@ -18,7 +18,6 @@ use Rattle.wa_model.specs.Behaves.{StandsNumbered}
 use Rattle.wa_model.specs.Configuration.{Activation, Configuration, place_of, stack_of}
 use Rattle.run_theory.specs.Fitting.{CallersFit, results_of, types_of, WaitingFits}
 use Rattle.wa_model.specs.Plan.{Plan}
-use Rattle.wa_model.specs.Plan as P
 use Rattle.run_laws.specs.Ranges.{ActivationIn, CodesIn}
 use Rattle.flat_laws.specs.FlatModule.{flat_module}
 use Rattle.flat_runs.specs.Beside.{Callers}

@@ -1,6 +1,5 @@
 -- For the policy `live`, the emitted module behaves like its original.
 use Rattle.std.proofs.Common.{subst}
-use Rattle.wa_types.specs.Base.{Base}
 use Rattle.run_laws.proofs.BlockingRuns.{base_codes, well_formed_in}
 use Rattle.slot_laws.proofs.Closed.{one_list}
 use Rattle.headline.specs.Core.{Core, world_of}

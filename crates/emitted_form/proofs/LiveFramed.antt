@@ -20,7 +20,7 @@ use Rattle.headline.specs.Framed.{Framed, FramedCalls}
 use Rattle.headline.proofs.CallPoints.{base_saved}
 use Rattle.headline.proofs.PairedFlat.{base_defined}
 use Rattle.emitted_form.specs.LiveFraming.{LiveFraming}
-use Rattle.emitted_form.proofs.PassingWeight.{passing_few}
+use Rattle.emitted_form.proofs.PassingWeight.{passing_few, result_few}
 
 -- all places are kept
 pub without_gaps : (ps : List Place) → map (λ (p : Place). kept p.local p.ty) ps ≡ fields_of (λ y. true) ps
@@ -41,6 +41,7 @@ module _ (m : Module) (s : Settings) (which : List Bool) (frames : (index : ℕ)
       let pass = passing_few m x f (Numbered m s which f) in
       let ps = Numbered m s which f in
       let body = (flattened (Base m) x f).body in
+      let last = result_few (flattened (Base m) x f).result in
       let sp = slim x f (base_defined m x ∙ is) told in
       let less = passing_law (flat_terms (Base m) ps x f) 0 (sp.out ∷ []) sp.out sp.here (first_piece ps 0 body) (frames x).pieces.first (units ps 0 body) (frames x).pieces.units sp.slim in
       record {

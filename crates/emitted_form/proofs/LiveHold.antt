@@ -41,6 +41,7 @@ use Rattle.emitted_form.proofs.BasicCode.{fits_basic}
 use Rattle.emitted_form.proofs.FitsBy.{CodesFit, one_of_all}
 use Rattle.emitted_form.proofs.Spaces.{globals_counted}
 use Rattle.emitted_form.specs.ByCallFraming.{PartsKeepLive}
+use Rattle.emitted_form.proofs.CallTails.{restoring_then, saving_then}
 use Rattle.emitted_form.specs.LiveParts.{LiveParts, live_codes, saved_total}
 use Rattle.emitted_form.proofs.CallCounts.{numbers_few, saved_few, total_few}
 use Rattle.emitted_form.proofs.PartRows.{EachPart, GoodFields, all_kept, each_part, good_first, good_rest, kept_bytes, parts_small, parts_typed, shared_few}
@@ -209,7 +210,7 @@ module _ (m : Module) (s : Settings) (which : List Bool) (valid : Valid m) (size
       let good = (good_call k (omega (arith, lt, c))).1 in
       let e = ap fields_size (fields_law p.index k p.parts) in omega (arith, good, e)
 
-  call_cost : (k place : ℕ) → slice_get (Numbered m s which f) k ≡ Some place → save_bound_at (frames_of p) k + restore_bound_at (frames_of p) k ≤ 64 * (Weight m f + 4)
+  call_cost : (k place : ℕ) → slice_get (Numbered m s which f) k ≡ Some place → save_bound_at (frames_of p) k + 1 + restore_bound_at (frames_of p) k ≤ 64 * (Weight m f + 4)
   call_cost k place at =
       let a = cost_law p k in
       let b = owed.tests in
@@ -235,4 +236,6 @@ module _ (m : Module) (s : Settings) (which : List Bool) (valid : Valid m) (size
     scratch = owed.scratch;
     fields = λ k place at. fields_law p.index k p.parts ∙ owed.fields k place at;
     cost = call_cost;
+    saves_on = saving_then p;
+    restores_on = restoring_then p;
   }

@@ -46,15 +46,15 @@ module _ (m : Module) (s : Settings) (which : List Bool) (pieces : (index : ℕ)
 
   -- ---- its frames
 
-  abbrev framing_of : Pieces → SavedParts → Option Func → Framing
-  framing_of pieces p None = record { pieces = pieces; restoring = done; saving = done; frame_at = λ place. one_frame (record { address = 0; index = 0; scratch = 0; fields = [] }) }
-  framing_of pieces p (Some f) = framing_by_call m s which f pieces (frames_of p)
+  abbrev framing_of : (index : ℕ) → Pieces → SavedParts → Option Func → Framing
+  framing_of x pieces p None = record { pieces = pieces; restoring = done; saving = done; frame_at = λ place. one_frame (record { address = 0; index = 0; scratch = 0; fields = [] }) None }
+  framing_of x pieces p (Some f) = framing_by_call m s which x f pieces (frames_of p)
 
   abbrev pub frames : (index : ℕ) → Framing
-  frames x = framing_of (pieces x) (parts x) (defined_at m x)
+  frames x = framing_of x (pieces x) (parts x) (defined_at m x)
 
-  pub frames_are : (x : ℕ) (f : Func) → defined_at m x ≡ Some f → frames x ≡ framing_by_call m s which f (pieces x) (frames_of (parts x))
-  frames_are x f is = ap (framing_of (pieces x) (parts x)) is
+  pub frames_are : (x : ℕ) (f : Func) → defined_at m x ≡ Some f → frames x ≡ framing_by_call m s which x f (pieces x) (frames_of (parts x))
+  frames_are x f is = ap (framing_of x (pieces x) (parts x)) is
 
   abbrev code_of : Framing → FrameCode
   code_of z = record { pieces = z.pieces; restoring = z.restoring; saving = z.saving }

@@ -1,5 +1,5 @@
 -- The step in between that the policy `live` puts: it is kept along runs, and what a suspended stack stands for is the same on both sides.
-use Rattle.std.proofs.Common.{◌≡◌, ◌∙◌, ℕ, zero, suc, ◌+◌, ◌-◌, ◌<◌, ◌≤◌, List, [], ◌∷◌, ◌++◌, length, map, get_or, Option, Some, None, Bool, true, false, All, refl, sym, ap, subst, arith, ⊎_elim}
+use Rattle.std.proofs.Common.{◌≡◌, ◌∙◌, ℕ, suc, ◌-◌, ◌<◌, ◌≤◌, List, [], ◌∷◌, ◌++◌, length, map, Option, Some, None, Bool, true, false, All, refl, sym, ap, subst, arith, ⊎_elim}
 use Rattle.std.specs.Prelude.{nat_lt, slice_get, if◌then◌else◌}
 use Rattle.std.proofs.lemmas.Bool.{cases_lt, le-ltb, lt-ltb}
 use Rattle.std.proofs.lemmas.List.Elements.{All-nil, All-cons, All-head, All-tail}
@@ -11,13 +11,13 @@ use Rattle.wa_types.specs.Base.{Base}
 use Rattle.wa_types.specs.Syntax.{Code, Func, Module}
 use Rattle.wa_types.specs.Pruned.{pruned}
 use Rattle.wa_types.specs.Modules.{defined_at, locals_of}
-use Rattle.wa_types.specs.Pausing.{Policy, save_live, Settings}
+use Rattle.wa_types.specs.Pausing.{save_live, Settings}
 use Rattle.wa_types.specs.Points.{func_call_points}
-use Rattle.wa_types.specs.Liveness.{Position, ReadsFirst, behind_calls, is_live_after, live_at, live_from, position}
+use Rattle.wa_types.specs.Liveness.{Position, ReadsFirst, behind_calls, is_live_after, live_from}
 use Rattle.wa_types.specs.Frames.{Pair, Place, Saved, SlotPairs, Suspended, is_on_stack, named_places, operand_at, place_onto, slot_places, wanted}
 use Rattle.wa_types.proofs.LiveLemmas.{live_reads}
 use Rattle.wa_model.specs.Behaves.{StandsNumbered}
-use Rattle.wa_model.specs.Configuration.{Activation, Configuration, Label, place_of, stack_of, suspended, waiting}
+use Rattle.wa_model.specs.Configuration.{Activation, Configuration, Label, place_of, suspended, waiting}
 use Rattle.wa_model.specs.Store.{Store, value_at}
 use Rattle.wa_model.specs.Untouched.{next_ranges}
 use Rattle.wa_model.specs.Blocking.{resumed}
@@ -29,7 +29,7 @@ use Rattle.run_laws.proofs.SpotPlaces.{at_call}
 use Rattle.headline.specs.FlatLaw.{AllWeigh}
 use Rattle.headline.specs.LiveLaw.{LiveLaw}
 use Rattle.headline.specs.World.{World, base}
-use Rattle.emitted_form.specs.SameLive.{AgreeAt, LiveLocalsStand, SameLive, SameLocals, SameUnder, WaitsThere, alike, also, leads_to, none, place}
+use Rattle.emitted_form.specs.SameLive.{LiveLocalsStand, SameLive, SameLocals, SameUnder, WaitsThere, alike, also, none, place}
 use Rattle.emitted_form.proofs.LiveSteps.{live_suffices}
 
 -- ---- it is a preorder

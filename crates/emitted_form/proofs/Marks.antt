@@ -4,7 +4,7 @@ use Rattle.std.proofs.lemmas.List.{append-nil, length-map}
 use Rattle.wa_types.specs.declared.values.ValType.{ValType}
 use Rattle.wa_types.specs.declared.values.ValType.TheVariants.{I32, I64}
 use Rattle.wa_types.specs.declared.values.Value.TheVariants as V
-use Rattle.wa_types.specs.Syntax.{Basic, const, num, global_get, load, store, basic, local_get, local_set, local_tee, br, br_if, br_table, return, unreachable, call, call_indirect, Plain, a_block, Code, done, plain, nest, branch}
+use Rattle.wa_types.specs.Syntax.{Basic, const, num, global_get, load, store, basic, local_get, local_set, local_tee, br, br_if, br_table, return, unreachable, call, call_indirect, Plain, a_block, a_loop, Code, done, plain, nest, branch}
 use Rattle.wa_types.specs.declared.operators.NumOp.TheVariants.{I32Ne, I32LtU, I32Add, I32Sub}
 use Rattle.wa_types.specs.Pausing.{Callee, callee, callee_onto, calls_of}
 use Rattle.wa_types.specs.Sizes.{plain_lists, code_lists}
@@ -14,11 +14,14 @@ use Rattle.run_theory.specs.Flat.{followed_by, got, set_to, slots_got, result_go
 use Rattle.run_theory.specs.Growth.{Each}
 use Rattle.local_spill.specs.declared.frames.Place.{Place}
 use Rattle.local_spill.specs.Spilling.{SpillIndices, location_of, room_tested, stored_value, loaded_value, locals_stored, locals_loaded, saving, restoring}
+use Rattle.wa_model.specs.Step.{zero_of}
 use Rattle.wa_model.specs.Store.{gives}
+use Rattle.frame_laws.specs.Function.{value_code}
 use Rattle.slim_laws.specs.Slim as S
 use Rattle.slim_laws.specs.Slim.{Free, Slims, Terms}
 use Rattle.guard_form.specs.Pieces.{Units, no_unit, call_unit, nest_unit, if_unit, any_unit, numbers_in, call_to, got_any, flat_units}
-use Rattle.guard_form.specs.Guarded.{raise, raised_plain, raised, GuardIndices, by_state, index_with, guarded, sought, one_more, index_noted, noted, call_guarded, choice, arm, Exit, each_end, its_end, by_label, nowhere, exit_inside, last_piece, call_front, body_exit, guarded_body, front, written_body}
+use Rattle.guard_form.specs.Guarded.{raise, raised_plain, raised, GuardIndices, by_state, index_with, guarded, sought, one_more, index_noted, noted, ends_too, call_guarded, choice, arm, Exit, its_end, by_label, nowhere, function_end, exit_inside, last_piece}
+use Rattle.guard_form.specs.Guarded.{call_front, front, sought_first, call_entry, entry, guarded_body, block_unit, written_body}
 
 -- ---- marks
 
@@ -30,6 +33,7 @@ pub record Marking (X : Type 0) : Type 0 where
   pub on_set : (x : ℕ) → marks (local_set x) ≡ []
   pub on_tee : (x : ℕ) → marks (local_tee x) ≡ []
   pub on_stop : marks unreachable ≡ []
+  pub on_return : marks return ≡ []
   pub on_br_if : (l : ℕ) → marks (br_if l) ≡ []
   pub on_raised : (d n : ℕ) (p : Plain) → marks (raised_plain d n p) ≡ marks p
 
@@ -44,7 +48,7 @@ module _ {X : Type 0} (k : Marking X) where
   unmarked : (p : Plain) (c : Code) → k.marks p ≡ [] → marks_of (plain p c) ≡ marks_of c
   unmarked p c e = ap (λ xs. xs ++ marks_of c) e
 
-  marks_then : (a b : Code) → marks_of (followed_by a b) ≡ marks_of a ++ marks_of b
+  pub marks_then : (a b : Code) → marks_of (followed_by a b) ≡ marks_of a ++ marks_of b
   unfolding followed_by
   marks_then done b = refl
   marks_then (plain p c) b = ap (λ z. k.marks p ++ z) (marks_then c b) ∙ sym (append_assoc (k.marks p) (marks_of c) (marks_of b))
@@ -143,11 +147,21 @@ module _ {X : Type 0} (k : Marking X) where
         ∙ unmarked (basic (global_get i.state)) (plain (br_if l) c) (k.on_basic (global_get i.state))
         ∙ unmarked (br_if l) c (k.on_br_if l)
 
+    marks_return : (c : Code) → marks_of (followed_by c (plain return done)) ≡ marks_of c ++ []
+    marks_return c = marks_then c (plain return done) ∙ ap (λ z. marks_of c ++ z) (unmarked return done k.on_return)
+
     marks_last : (e : Exit) (c : Code) → marks_of (last_piece i e c) ≡ marks_of c ++ []
-    marks_last each_end c = marks_guarded c done
     marks_last its_end c = marks_guarded c done
     marks_last (by_label l) c = sym (append-nil (marks_of c))
     marks_last nowhere c = sym (append-nil (marks_of c))
+    marks_last function_end c = marks_return c
+
+    marks_ends : (e : Exit) (own : Bool) (c : Code) → marks_of (ends_too e own c) ≡ marks_of c
+    marks_ends e true c = refl
+    marks_ends its_end false c = refl
+    marks_ends (by_label l) false c = refl
+    marks_ends nowhere false c = refl
+    marks_ends function_end false c = marks_return c ∙ append-nil (marks_of c)
 
     -- a call, in a block of its own or not
     marks_call : (e : Exit) (any : Bool) (n : ℕ) (first : Code) (call_of : Bool → Code) (next : Code) (called behind : List X) → ((own : Bool) → marks_of (call_of own) ≡ called)
@@ -161,12 +175,13 @@ module _ {X : Type 0} (k : Marking X) where
         ends e = sym (ap (λ z. (marks_of first ++ called) ++ z) e ∙ append-nil (marks_of first ++ called))
 
         by : (e : Exit) (any : Bool) → (any ≡ false → behind ≡ []) → marks_of (call_front i e any n first call_of next) ≡ (marks_of first ++ called) ++ behind
-        by each_end any none = in_block
         by its_end any none = in_block
         by (by_label l) true none = in_block
         by (by_label l) false none = marks_sought (suc l) 1 n first (call_of false) ∙ ap (λ z. marks_of first ++ z) (same false) ∙ ends (none refl)
         by nowhere true none = in_block
         by nowhere false none = marks_guarded first (call_of false) ∙ ap (λ z. marks_of first ++ z) (same false) ∙ ends (none refl)
+        by function_end true none = in_block
+        by function_end false none = marks_guarded first (call_of false) ∙ ap (λ z. marks_of first ++ z) (same false) ∙ ends (none refl)
 
     none_behind : (us : Units) → any_unit us ≡ false → marks_of (flat_units us) ≡ []
     none_behind no_unit q = refl
@@ -206,14 +221,14 @@ module _ {X : Type 0} (k : Marking X) where
     pub marks_front : (e : Exit) (d n : ℕ) (first : Code) (us : Units) → marks_of (front i e d n first us) ≡ flat first us
     marks_front e d n first no_unit = marks_last e first
     marks_front e d n first (call_unit slots x to behind rest) =
-        let called : (own : Bool) → marks_of (call_guarded i own d n slots x to behind) ≡ k.marks (call_to x) ++ marks_of behind =
-        λ own. marks_slots slots (plain (call_to x) (noted i (one_more own d) n (set_to to (raised 0 (one_more own 0) behind))))
-        ∙ ap (λ z. k.marks (call_to x) ++ z) (marks_noted (one_more own d) n (set_to to (raised 0 (one_more own 0) behind))
-        ∙ marks_set to (raised 0 (one_more own 0) behind) ∙ marks_raised 0 (one_more own 0) behind) in
+        let called : (own : Bool) → marks_of (call_guarded i e own d n slots x to behind) ≡ k.marks (call_to x) ++ marks_of behind =
+        λ own. marks_slots slots (plain (call_to x) (noted i (one_more own d) n (set_to to (ends_too e own (raised 0 (one_more own 0) behind)))))
+        ∙ ap (λ z. k.marks (call_to x) ++ z) (marks_noted (one_more own d) n (set_to to (ends_too e own (raised 0 (one_more own 0) behind)))
+        ∙ marks_set to (ends_too e own (raised 0 (one_more own 0) behind)) ∙ marks_ends e own (raised 0 (one_more own 0) behind) ∙ marks_raised 0 (one_more own 0) behind) in
         let own : marks_of (slots_got slots (plain (call_to x) (set_to to (followed_by behind (flat_units rest))))) ≡ k.marks (call_to x) ++ (marks_of behind ++ marks_of (flat_units rest)) =
         marks_slots slots (plain (call_to x) (set_to to (followed_by behind (flat_units rest))))
         ∙ ap (λ z. k.marks (call_to x) ++ z) (marks_set to (followed_by behind (flat_units rest)) ∙ marks_then behind (flat_units rest)) in
-        marks_call e (any_unit rest) n first (λ own. call_guarded i own d n slots x to behind) (front i e d (suc n) done rest) (k.marks (call_to x) ++ marks_of behind) (marks_of (flat_units rest))
+        marks_call e (any_unit rest) n first (λ own. call_guarded i e own d n slots x to behind) (front i e d (suc n) done rest) (k.marks (call_to x) ++ marks_of behind) (marks_of (flat_units rest))
         called (marks_front e d (suc n) done rest) (none_behind rest)
         ∙ append_assoc (marks_of first) (k.marks (call_to x) ++ marks_of behind) (marks_of (flat_units rest))
         ∙ ap (λ z. marks_of first ++ z) (append_assoc (k.marks (call_to x)) (marks_of behind) (marks_of (flat_units rest)) ∙ sym own)
@@ -243,6 +258,50 @@ module _ {X : Type 0} (k : Marking X) where
         ∙ ap (λ z. z ++ marks_of whole ++ marks_of arms) (marks_choice n a b)
         ∙ ap (λ z. z ++ marks_of arms) tested
         ∙ ap (λ z. marks_of first ++ z) (same ∙ sym (marks_any o flat_arms))
+
+    -- ---- a sequence that a function begins with
+
+    -- code in a test's first arm is as good as other code with its marks
+    marks_swapped : (a a' b c : Code) → marks_of a ≡ marks_of a' → marks_of (by_state i.state a b c) ≡ marks_of (by_state i.state a' b c)
+    marks_swapped a a' b c e = ap (λ z. k.marks (basic (global_get i.state)) ++ (z ++ marks_of b ++ marks_of c)) e
+
+    module _ (h : Code → Code) (same : (c : Code) → marks_of (h c) ≡ marks_of c) where
+      -- a test of its own, with a piece or none in its other arm
+      marks_alone : (first next : Code) → marks_of (by_state i.state (h done) (raised 0 1 first) next) ≡ marks_of (guarded i first next)
+      marks_alone first next =
+          marks_swapped (h done) done (raised 0 1 first) next (same done) ∙ marks_state done (raised 0 1 first) next
+          ∙ ap (λ z. z ++ marks_of next) (marks_raised 0 1 first) ∙ sym (marks_guarded first next)
+
+      marks_first : (l m n : ℕ) (a c : Code) → marks_of (sought_first i h l m n a c) ≡ marks_of (sought i l m n a c)
+      marks_first l m n a c =
+          let tested : Code = index_with i (basic (num I32Ne)) n (plain (br_if l) done) in
+          marks_swapped (h tested) tested (raised 0 m a) c (same tested)
+
+      marks_first_call : (e : Exit) (any : Bool) (n : ℕ) (first : Code) (call_of : Bool → Code) (next : Code)
+          → marks_of (call_entry i h e any n first call_of next) ≡ marks_of (call_front i e any n first call_of next)
+      marks_first_call its_end any n first call_of next = ap (λ z. z ++ marks_of next) (marks_first 1 2 n first (call_of true))
+      marks_first_call (by_label l) true n first call_of next = ap (λ z. z ++ marks_of next) (marks_first 1 2 n first (call_of true))
+      marks_first_call (by_label l) false n first call_of next = marks_first (suc l) 1 n first (call_of false)
+      marks_first_call nowhere true n first call_of next = ap (λ z. z ++ marks_of next) (marks_first 1 2 n first (call_of true))
+      marks_first_call nowhere false n first call_of next = marks_alone first (call_of false)
+      marks_first_call function_end true n first call_of next = ap (λ z. z ++ marks_of next) (marks_first 1 2 n first (call_of true))
+      marks_first_call function_end false n first call_of next = marks_alone first (call_of false)
+
+      -- it has the marks that it would have elsewhere
+      marks_entry : (e : Exit) (d n : ℕ) (first : Code) (us : Units) → marks_of (entry i h e d n first us) ≡ marks_of (front i e d n first us)
+      marks_entry e d n first no_unit = marks_alone done (last_piece i e first)
+      marks_entry e d n first (call_unit slots x to behind rest) =
+          marks_first_call e (any_unit rest) n first (λ own. call_guarded i e own d n slots x to behind) (front i e d (suc n) done rest)
+      marks_entry e d n done (nest_unit a_block inner body behind rest) =
+          ap (λ z. z ++ marks_of (front i e d (n + numbers_in body) behind rest)) (marks_entry (exit_inside e a_block (any_unit rest)) (suc d) n inner body)
+      marks_entry e d n done (nest_unit a_loop inner body behind rest) = marks_alone done (front i e d n done (nest_unit a_loop inner body behind rest))
+      marks_entry e d n (plain p c) (nest_unit s inner body behind rest) = marks_alone (plain p c) (front i e d n done (nest_unit s inner body behind rest))
+      marks_entry e d n (nest t r y c) (nest_unit s inner body behind rest) = marks_alone (nest t r y c) (front i e d n done (nest_unit s inner body behind rest))
+      marks_entry e d n (branch r y z c) (nest_unit s inner body behind rest) = marks_alone (branch r y z c) (front i e d n done (nest_unit s inner body behind rest))
+      marks_entry e d n first (if_unit o fa a fb b behind rest) =
+          let v = exit_inside e a_block (any_unit rest) in
+          let arms : Code = branch None (arm a fa (front i v (suc d) n fa a)) (arm b fb (front i v (suc d) (n + numbers_in a) fb b)) (front i e d (n + numbers_in a + numbers_in b) behind rest) in
+          ap (λ z. k.marks (basic (global_get i.state)) ++ (z ++ marks_of (raised 0 1 (followed_by first (got_any o done))) ++ marks_of arms)) (same (choice i n a b))
 
   -- ---- frames
 
@@ -323,22 +382,28 @@ module _ {X : Type 0} (k : Marking X) where
       ∙ with_tee i.scratch lowered ∙ marks_stored I32 0 next ∙ marks_loads i.scratch ps index ∙ with_get i.scratch (loaded_value I32 n set) ∙ marks_loaded I32 n set
       ∙ with_set i.index c
 
+  -- a value for a result
+  pub marks_value : (t : Option ValType) → marks_of (value_code t) ≡ []
+  marks_value None = refl
+  marks_value (Some t) = with_basic (const (zero_of t)) done
+
   marks_result : (r : Option ℕ) → marks_of (result_got r) ≡ []
   marks_result None = refl
   marks_result (Some x) = with_get x done
 
   -- the written body has the marks of the flat code
-  pub marks_written : (i : GuardIndices) (before after : Code) (r : Option ℕ) (exits : Bool) (first : Code) (us : Units) → marks_of before ≡ [] → marks_of after ≡ []
-      → marks_of (written_body i exits before after (result_got r) first us) ≡ marks_of (followed_by first (flat_units us))
-  marks_written i before after r exits first us eb ea =
-      let last : Code = by_state i.state after done (result_got r) in
-      let ends : marks_of last ≡ [] = marks_state i after done (result_got r) ∙ ap (λ z. z ++ [] ++ marks_of (result_got r)) ea ∙ marks_result r in
-      marks_state i before done (nest a_block None (guarded_body i exits first us) last)
-      ∙ ap (λ z. z ++ [] ++ (marks_of (guarded_body i exits first us) ++ marks_of last)) eb
-      ∙ ap (λ z. marks_of (guarded_body i exits first us) ++ z) ends
-      ∙ append-nil (marks_of (guarded_body i exits first us))
-      ∙ marks_front i (body_exit exits) 0 0 first us
-      ∙ sym (marks_then first (flat_units us))
+  pub marks_written : (i : GuardIndices) (before after : Code) (r : Option ℕ) (first : Code) (us : Units) → marks_of before ≡ [] → marks_of after ≡ []
+      → marks_of (written_body i (followed_by before) after done (block_unit first us r)) ≡ marks_of (followed_by first (flat_units us))
+  marks_written i before after r first us eb ea =
+      let own : Units = block_unit first us r in
+      let body : Code = followed_by first (flat_units us) in
+      let restores : (c : Code) → marks_of (followed_by before c) ≡ marks_of c = λ c. marks_then before c ∙ ap (λ z. z ++ marks_of c) eb in
+      ap (λ z. marks_of (guarded_body i (followed_by before) done own) ++ z) ea
+      ∙ append-nil (marks_of (guarded_body i (followed_by before) done own))
+      ∙ marks_entry i (followed_by before) restores function_end 0 0 done own
+      ∙ marks_front i function_end 0 0 done own
+      ∙ ap (λ z. marks_of body ++ z) (marks_then (result_got r) done ∙ append-nil (marks_of (result_got r)) ∙ marks_result r)
+      ∙ append-nil (marks_of body)
 
 -- ---- calls
 
@@ -359,6 +424,7 @@ call_marking = record {
   on_set = λ x. refl;
   on_tee = λ x. refl;
   on_stop = refl;
+  on_return = refl;
   on_br_if = λ l. refl;
   on_raised = call_raised;
 }
@@ -403,6 +469,7 @@ table_marking = record {
   on_set = λ x. refl;
   on_tee = λ x. refl;
   on_stop = refl;
+  on_return = refl;
   on_br_if = λ l. refl;
   on_raised = table_raised;
 }

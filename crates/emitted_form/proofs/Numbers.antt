@@ -1,5 +1,5 @@
 -- The numbers that limits bound, of sections and of the module that they are.
-use Rattle.std.proofs.Common.{◌≡◌, ◌∙◌, ℕ, zero, suc, ◌+◌, ◌<◌, ◌≤◌, List, [], ◌∷◌, ◌++◌, length, map, Bool, true, false, Option, Some, None, All, refl, sym, ap, subst, arith, length-append}
+use Rattle.std.proofs.Common.{◌≡◌, ◌∙◌, ℕ, ◌+◌, ◌≤◌, List, [], ◌∷◌, ◌++◌, length, map, Bool, true, false, Some, None, All, refl, sym, ap, arith}
 use Rattle.std.specs.Prelude.{nat_lt, if◌then◌else◌}
 use Rattle.std.specs.List.{AllZip, flat_map}
 use Rattle.std.proofs.lemmas.Bool.{le-ltb}
@@ -8,10 +8,10 @@ use Rattle.std.proofs.lemmas.List.Elements.{All-nil, All-cons, All-head, All-tai
 use Rattle.wa_types.specs.declared.syntax.Import.{Import}
 use Rattle.wa_types.specs.declared.syntax.ImportKind.{ImportKind}
 use Rattle.wa_types.specs.Binary.{RawType, RawKind, raw_func, raw_table, raw_memory, raw_global, RawImport, RawBody, Section}
-use Rattle.wa_types.specs.Marks.{kind_sorts, imported_sorts, function_count, parameter_counts, body_sizes, first_above}
+use Rattle.wa_types.specs.Marks.{kind_sorts, function_count, parameter_counts, body_sizes, first_above}
 use Rattle.wa_types.specs.Reading.{IsValueType, IsFuncType, IsKind, IsImport, types_in, imports_in, IsModule}
 use Rattle.wa_types.specs.Sizes as Sizes
-use Rattle.wa_types.specs.Spells.{BodyOf, SectionOf, Items, sorts_in, bodies_in, Spells}
+use Rattle.wa_types.specs.Spells.{BodyOf, bodies_in, Spells}
 use Rattle.wa_types.specs.Syntax.{FuncType, Func, Module}
 use Rattle.wasm_reader.proofs.SpelledCodeSizes.{length_split}
 use Rattle.wasm_reader.proofs.SpelledSizes.{Seen, held_seen, bodies_seen, each_length, none_above}

@@ -19,17 +19,18 @@ use Rattle.flat_laws.specs.Flatten.{Names, names, top, carry_to, carry, carry_al
 use Rattle.flat_laws.proofs.Depths.{flat_is_flat}
 use Rattle.flat_laws.proofs.Sizes.{flat_is_small}
 use Rattle.flat_laws.proofs.ValidModules.{flat_pruned}
-use Rattle.frame_laws.specs.Sizes.{result_size}
+use Rattle.frame_laws.specs.Function.{result_type, value_code}
 use Rattle.guard_form.specs.Bounds.{unit_count}
 use Rattle.guard_form.specs.Functions.{GuardedFunc, indices_of}
-use Rattle.guard_form.specs.Guarded.{body_exit, guarded_body, function_body}
+use Rattle.guard_form.specs.Guarded.{GuardIndices, nowhere, front, block_unit, written_body}
 use Rattle.guard_form.specs.Pieces.{Units, first_piece, flat_units, units}
-use Rattle.slim_laws.specs.SlimModule.{SlimPieces, flat_terms}
+use Rattle.slim_laws.specs.SlimModule.{Pieces, SlimPieces, flat_terms}
 use Rattle.slim_laws.specs.SlimUnitLaws.{SlimmerUnits}
 use Rattle.slim_laws.proofs.UnitSizes.{slimmer_law}
 use Rattle.slim_laws.proofs.UnitsAlike.{units_alike}
 use Rattle.guard_form.proofs.Grouped.{joins_law}
-use Rattle.guard_form.proofs.Sizes.{depth_law, size_law}
+use Rattle.guard_form.proofs.EntrySizes.{entry_depth, entry_size}
+use Rattle.guard_form.proofs.Sizes.{depth_law, size_law, size_then}
 use Rattle.emitted_form.proofs.UnitsFew.{calls_and_constructs, units_are_few}
 use Rattle.emitted_form.specs.CodesHold.{codes_size}
 use Rattle.emitted_form.specs.EmittedBy.{FrameCode, guarded_by, written_by}
@@ -120,31 +121,58 @@ counts_less (branch r a b rest) = let ia = counts_less a in let ib = counts_less
 
 -- ---- the body of a function
 
-result_has : (o : Option ℕ) → instructions_and_labels (result_got o) ≡ result_size o
+result_has : (o : Option ℕ) → instructions_and_labels (result_got o) ≤ 1
 unfolding instructions_and_labels
-result_has None = refl
-result_has (Some y) = refl
+result_has None = omega arith
+result_has (Some y) = omega arith
 
 result_flat : (o : Option ℕ) → depth_of (result_got o) ≡ 0
 unfolding depth_of
 result_flat None = refl
 result_flat (Some y) = refl
 
-module _ (st : ℕ) (restoring saving body : Code) (o : Option ℕ) where
-  pub body_size : instructions_and_labels (function_body st restoring saving (result_got o) body)
-      ≡ 5 + instructions_and_labels restoring + instructions_and_labels saving + instructions_and_labels body + result_size o
+value_has : (t : Option ValType) → instructions_and_labels (value_code t) ≤ 1
+unfolding instructions_and_labels
+value_has None = omega arith
+value_has (Some t) = omega arith
+
+value_flat : (t : Option ValType) → depth_of (value_code t) ≡ 0
+unfolding depth_of
+value_flat None = refl
+value_flat (Some t) = refl
+
+deep_then : (c d : Code) → depth_of (followed_by c d) ≡ max (depth_of c) (depth_of d)
+unfolding depth_of followed_by
+deep_then done d = omega arith
+deep_then (plain p c) d = deep_then c d
+deep_then (nest s r b c) d = let e = deep_then c d in grind arith
+deep_then (branch r x y c) d = let e = deep_then c d in grind arith
+
+module _ (i : GuardIndices) (restoring saving first : Code) (us : Units) (o : Option ℕ) (t : Option ValType) where
+  abbrev written : Code
+  written = written_body i (followed_by restoring) (followed_by saving (value_code t)) done (block_unit first us o)
+
+  -- the guarded sequence of the function's own block
+  abbrev inside : Code
+  inside = front i nowhere 1 0 first us
+
+  pub body_size : instructions_and_labels written
+      ≤ 6 + instructions_and_labels restoring + instructions_and_labels saving + instructions_and_labels inside + instructions_and_labels (result_got o)
   unfolding instructions_and_labels
-  body_size = let e = result_has o in omega arith
+  body_size =
+      let a = entry_size i (followed_by restoring) (instructions_and_labels restoring) nowhere 1 0 first us (λ c. size_then restoring c) in
+      let b = size_then saving (value_code t) in
+      let e = size_then (result_got o) (plain return done) in
+      let v = value_has t in omega arith
 
-  pub body_depth : depth_of restoring ≤ 1 → depth_of saving ≤ 1 → depth_of (function_body st restoring saving (result_got o) body) ≤ max 2 (1 + depth_of body)
+  pub body_depth : depth_of restoring ≤ 1 → depth_of saving ≤ 1 → depth_of written ≤ 4 + depth_of inside
   unfolding depth_of
-  body_depth r s = let e = result_flat o in grind arith
-
-  -- both codes nest no deeper than a function with them, but for the branch around them
-  pub inner_depths : (1 + depth_of restoring ≤ depth_of (function_body st restoring saving (result_got o) body))
-      × (1 + depth_of saving ≤ depth_of (function_body st restoring saving (result_got o) body))
-  unfolding depth_of
-  inner_depths = (grind arith, grind arith)
+  body_depth r s =
+      let a = entry_depth i (followed_by restoring) 1 nowhere 1 0 first us (λ c. let e = deep_then restoring c in omega arith) in
+      let b = deep_then saving (value_code t) in
+      let e = deep_then (result_got o) (plain return done) in
+      let n = result_flat o in
+      let v = value_flat t in omega arith
 
 -- ---- a written function
 
@@ -152,11 +180,17 @@ module _ (m : Module) (s : Settings) (which : List Bool) (codes : (index : ℕ) 
   abbrev gf : GuardedFunc
   gf = guarded_by m s which codes x f
 
+  abbrev ps : Pieces
+  ps = (codes x f).pieces
+
   abbrev guarded : Code
-  guarded = guarded_body (indices_of (global_space m) gf) gf.exits gf.first gf.body
+  guarded = front (indices_of (global_space m) gf) nowhere 1 0 ps.first ps.units
 
   abbrev flat_code : Code
   flat_code = code_of (flattened m x f).body
+
+  abbrev result : Option ℕ
+  result = (flattened m x f).result
 
   abbrev w : ℕ
   w = code_weight m (pruned f.body)
@@ -171,10 +205,10 @@ module _ (m : Module) (s : Settings) (which : List Bool) (codes : (index : ℕ) 
   joined = joins_law (Numbered m s which f) 0 (flattened m x f).body
 
   -- slim pieces are no larger
-  slimmer : SlimmerUnits (global_space m) [] first0 gf.first units0 gf.body
-  slimmer = slimmer_law (flat_terms m (Numbered m s which f) x f) 0 (sp.out ∷ []) sp.out sp.here [] first0 gf.first units0 gf.body (global_space m) sp.slim
+  slimmer : SlimmerUnits (global_space m) [] first0 ps.first units0 ps.units
+  slimmer = slimmer_law (flat_terms m (Numbered m s which f) x f) 0 (sp.out ∷ []) sp.out sp.here [] first0 ps.first units0 ps.units (global_space m) sp.slim
 
-  few_units : unit_count gf.body ≤ w
+  few_units : unit_count ps.units ≤ w
   few_units =
       let a = units_are_few (Numbered m s which f) 0 (flattened m x f).body in
       let b = flat_few (names m f) (around m f) ((around m f).result ∷ []) (pruned f.body) [] in
@@ -182,23 +216,18 @@ module _ (m : Module) (s : Settings) (which : List Bool) (codes : (index : ℕ) 
       ap calls_and_constructs (sym (flat_pruned (names m f) (around m f) ((around m f).result ∷ []) f.body [])) in
       let c = counts_less (pruned f.body) in
       let d = code_weighs m (pruned f.body) in
-      let same = (units_alike (flat_terms m (Numbered m s which f) x f) 0 (sp.out ∷ []) sp.out sp.here [] first0 gf.first units0 gf.body sp.slim).count in omega arith
+      let same = (units_alike (flat_terms m (Numbered m s which f) x f) 0 (sp.out ∷ []) sp.out sp.here [] first0 ps.first units0 ps.units sp.slim).count in omega arith
 
-  -- the result and the guarded body together
-  flat_size : instructions_and_labels flat_code + result_size gf.result ≤ 8 * w + 4
+  -- the flat code and its result, without the block around
+  flat_size : instructions_and_labels flat_code + instructions_and_labels (result_got result) ≤ 8 * w + 3
   unfolding instructions_and_labels
   flat_size =
       let a = flat_is_small m x f in
-      let b = code_weighs m (body_of (flattened m x f)) in
-      let e = by gf.result in omega arith
-    where
-      by : (o : Option ℕ) → instructions_and_labels (result_got o) ≡ result_size o
-      by None = refl
-      by (Some y) = refl
+      let b = code_weighs m (body_of (flattened m x f)) in omega arith
 
   guarded_size : instructions_and_labels guarded ≤ instructions_and_labels flat_code + 11 * w + 2
   guarded_size =
-      let a = size_law (indices_of (global_space m) gf) (body_exit gf.exits) 0 0 gf.first gf.body in
+      let a = size_law (indices_of (global_space m) gf) nowhere 1 0 ps.first ps.units in
       let e = ap instructions_and_labels joined in
       let z = slimmer in
       let less = z.size in
@@ -206,14 +235,14 @@ module _ (m : Module) (s : Settings) (which : List Bool) (codes : (index : ℕ) 
 
   pub written_size : instructions_and_labels (written_by m s which codes x f).body ≤ 19 * w + codes_size (codes x f) + 11
   written_size =
-      let a = body_size (global_space m) (codes x f).restoring (codes x f).saving guarded gf.result in
+      let a = body_size (indices_of (global_space m) gf) (codes x f).restoring (codes x f).saving ps.first ps.units result (result_type (flattened m x f).locals result) in
       let g = guarded_size in
       let h = flat_size in omega arith
 
-  pub written_depth : depth_of (codes x f).restoring ≤ 1 → depth_of (codes x f).saving ≤ 1 → depth_of (written_by m s which codes x f).body ≤ depth_of (pruned f.body) + 3
+  pub written_depth : depth_of (codes x f).restoring ≤ 1 → depth_of (codes x f).saving ≤ 1 → depth_of (written_by m s which codes x f).body ≤ depth_of (pruned f.body) + 6
   written_depth r s =
-      let a = body_depth (global_space m) (codes x f).restoring (codes x f).saving guarded gf.result r s in
-      let b = depth_law (indices_of (global_space m) gf) (body_exit gf.exits) 0 0 gf.first gf.body in
+      let a = body_depth (indices_of (global_space m) gf) (codes x f).restoring (codes x f).saving ps.first ps.units result (result_type (flattened m x f).locals result) r s in
+      let b = depth_law (indices_of (global_space m) gf) nowhere 1 0 ps.first ps.units in
       let e = ap depth_of joined in
       let z = slimmer in
       let less = z.depth in

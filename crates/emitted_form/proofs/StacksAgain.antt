@@ -1,8 +1,6 @@
 -- A flat stack that came back from frames of the policy `live`, activation by activation.
 use Rattle.std.proofs.Common.{◌≡◌, ◌∙◌, ℕ, List, [], ◌∷◌, ◌++◌, Bool, true, false, sym, ap, subst}
-use Rattle.wa_types.specs.Modules.{defined_at}
-use Rattle.wa_types.specs.Pausing.{is_told}
-use Rattle.wa_types.specs.Syntax.{Code, Func, Module}
+use Rattle.wa_types.specs.Syntax.{Code, Module}
 use Rattle.wa_types.specs.declared.values.Value.{Value}
 use Rattle.wa_model.specs.Configuration.{Activation, Label, waiting}
 use Rattle.run_theory.specs.Fitting.{results_of, types_of}

@@ -8,7 +8,7 @@ use Rattle.wa_types.specs.declared.values.ValType.TheVariants.{I32, I64}
 use Rattle.wa_types.specs.Modules.{defined_at}
 use Rattle.wa_types.specs.Pausing.{Settings, Numbered}
 use Rattle.wa_types.specs.Runtime.{global_space}
-use Rattle.wa_types.specs.Syntax.{Plain, global_get, basic, a_block, Code, done, plain, nest, branch, Func, Module}
+use Rattle.wa_types.specs.Syntax.{Plain, global_get, basic, return, a_block, Code, done, plain, nest, branch, Func, Module}
 use Rattle.wa_types.specs.Typing.{Typed, listed}
 use Rattle.wa_types.specs.Validity.{Valid}
 use Rattle.run_theory.specs.Flat.{Stmts, code_of, followed_by, result_got}
@@ -17,16 +17,18 @@ use Rattle.run_theory.proofs.FittingNames.{type_small, func_type_small}
 use Rattle.run_theory.proofs.NamedModules.{typed_named, valid_named}
 use Rattle.local_spill.specs.Spilling.{index_restored, index_saved, location_raised, locals_loaded, locals_stored}
 use Rattle.local_spill.specs.declared.frames.Place.{Place}
+use Rattle.frame_laws.specs.Function.{result_type, value_code}
 use Rattle.frame_laws.specs.Layout.{Layout, fields_size, placed, restore_code, save_code}
 use Rattle.guard_form.proofs.UnitCounts.{counted_law}
 use Rattle.guard_form.specs.Bounds.{plain_reads, reads, reads_bound, unit_count}
 use Rattle.flat_laws.specs.Flatten.{flattened}
 use Rattle.guard_form.specs.Functions.{GuardedFunc, indices_of}
-use Rattle.guard_form.specs.Guarded.{GuardIndices, body_exit, written_body}
+use Rattle.guard_form.specs.Guarded.{GuardIndices, nowhere, block_unit, written_body}
 use Rattle.guard_form.specs.Pieces.{Units, first_piece, flat_units, units}
-use Rattle.slim_laws.specs.SlimModule.{SlimPieces, flat_terms}
+use Rattle.slim_laws.specs.SlimModule.{Pieces, SlimPieces, flat_terms}
 use Rattle.guard_form.proofs.Grouped.{joins_law}
-use Rattle.guard_form.proofs.Sizes.{one_read, reads_law}
+use Rattle.guard_form.proofs.EntrySizes.{entry_reads}
+use Rattle.guard_form.proofs.Sizes.{reads_law}
 use Rattle.flat_laws.proofs.Typing.{wide, body_types}
 use Rattle.slim_laws.proofs.UnitSizes.{slimmer_law}
 use Rattle.slim_laws.proofs.UnitsAlike.{units_alike}
@@ -85,13 +87,29 @@ module _ (st : ℕ) where
   result_unread None = refl
   result_unread (Some x) = refl
 
+  value_unread : (t : Option ValType) → reads st (value_code t) ≡ 0
+  value_unread None = refl
+  value_unread (Some t) = refl
+
+-- code with more code behind it
+reads_then : (st : ℕ) (c d : Code) → reads st (followed_by c d) ≡ reads st c + reads st d
+unfolding followed_by
+reads_then st done d = omega arith
+reads_then st (plain p c) d = let ih = reads_then st c d in omega arith
+reads_then st (nest s r b c) d = let ih = reads_then st c d in omega arith
+reads_then st (branch r a b c) d = let ih = reads_then st c d in omega arith
+
 -- a written body whose pieces and codes don't read the state
-body_few : (i : GuardIndices) (exits : Bool) (restoring saving result first : Code) (us : Units)
-    → reads i.state (followed_by first (flat_units us)) ≡ 0 → reads i.state restoring ≡ 0 → reads i.state saving ≡ 0 → reads i.state result ≡ 0
-    → reads i.state (written_body i exits restoring saving result first us) ≤ 4 * unit_count us + 3
-body_few i exits restoring saving result first us none r0 s0 g0 =
-    let r = reads_law i (body_exit exits) 0 0 first us in
-    let o = one_read i.state (basic (global_get i.state)) in
+body_few : (i : GuardIndices) (restoring saving first : Code) (us : Units) (o : Option ℕ) (t : Option ValType)
+    → reads i.state (followed_by first (flat_units us)) ≡ 0 → reads i.state restoring ≡ 0 → reads i.state saving ≡ 0
+    → reads i.state (written_body i (followed_by restoring) (followed_by saving (value_code t)) done (block_unit first us o)) ≤ 4 * unit_count us + 2
+body_few i restoring saving first us o t none r0 s0 =
+    let q = entry_reads i (followed_by restoring) nowhere 1 0 first us (λ c. let e = reads_then i.state restoring c in omega arith) in
+    let r = reads_law i nowhere 1 0 first us in
+    let z = reads_then i.state (result_got o) (plain return done) in
+    let g = result_unread i.state o in
+    let y = reads_then i.state saving (value_code t) in
+    let v = value_unread i.state t in
     omega arith
 
 module _ (m : Module) (v : Valid m) where
@@ -132,14 +150,18 @@ module _ (m : Module) (v : Valid m) where
     abbrev units0 : Units
     units0 = units places 0 stmts
 
-    pieces_unread : reads st (followed_by gf.first (flat_units gf.body)) ≡ 0
+    abbrev ps : Pieces
+    ps = (codes x f).pieces
+
+    pieces_unread : reads st (followed_by ps.first (flat_units ps.units)) ≡ 0
     pieces_unread =
-        let slim = slimmer_law (flat_terms m places x f) 0 (sp.out ∷ []) sp.out sp.here [] first0 gf.first units0 gf.body st sp.slim in
+        let slim = slimmer_law (flat_terms m places x f) 0 (sp.out ∷ []) sp.out sp.here [] first0 ps.first units0 ps.units st sp.slim in
         slim.reading ∙ ap (reads st) (joins_law places 0 stmts) ∙ flat_unread x f is
 
     pub written_few : reads st (codes x f).restoring ≡ 0 → reads st (codes x f).saving ≡ 0 → reads st (written_by m s which codes x f).body ≤ reads_bound places stmts
     written_few r0 s0 =
-        let less = body_few (indices_of st gf) gf.exits gf.restoring gf.saving (result_got gf.result) gf.first gf.body pieces_unread r0 s0 (result_unread st gf.result) in
-        let same = (units_alike (flat_terms m places x f) 0 (sp.out ∷ []) sp.out sp.here [] first0 gf.first units0 gf.body sp.slim).count in
+        let result = (flattened m x f).result in
+        let less = body_few (indices_of st gf) (codes x f).restoring (codes x f).saving ps.first ps.units result (result_type (flattened m x f).locals result) pieces_unread r0 s0 in
+        let same = (units_alike (flat_terms m places x f) 0 (sp.out ∷ []) sp.out sp.here [] first0 ps.first units0 ps.units sp.slim).count in
         let count = (counted_law places 0 stmts).count in
         omega arith

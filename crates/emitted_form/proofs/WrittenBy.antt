@@ -1,20 +1,20 @@
 -- A written function whose codes have their types has its type in the emitted module.
 use Rattle.std.proofs.Common.{◌≡◌, ◌∙◌, ℕ, suc, ◌+◌, ◌<◌, List, [], ◌∷◌, ◌++◌, length, map, Option, Some, None, Bool, true, refl, sym, ap, subst, arith, length-append}
 use Rattle.std.specs.Prelude.{slice_get, replicate}
-use Rattle.std.proofs.lemmas.List.{append_assoc, length-map}
+use Rattle.std.proofs.lemmas.List.{append_assoc, append-nil, length-map}
 use Rattle.std.proofs.lemmas.List.Concat.{flat_map-append}
 use Rattle.wa_types.specs.declared.syntax.Run.{Run}
 use Rattle.wa_types.specs.declared.values.ValType.{ValType}
-use Rattle.wa_types.specs.declared.values.ValType.TheVariants.{I32}
+use Rattle.wa_types.specs.declared.values.ValType.TheVariants.{I32, I64}
 use Rattle.wa_types.specs.Base.{Base}
 use Rattle.wa_types.specs.Frames.{Pair, SlotPairs, ResultPairs, Count}
 use Rattle.wa_types.specs.Modules.{type_at, declared_locals, locals_of, around}
 use Rattle.wa_types.specs.Pausing.{Settings, Numbered}
 use Rattle.wa_types.specs.Runtime.{global_space, with_runtime}
-use Rattle.wa_types.specs.Syntax.{a_block, Code, nest, Func, Module}
-use Rattle.wa_types.specs.Typing.{Around, listed, Types, Typed}
+use Rattle.wa_types.specs.Syntax.{a_block, return, Code, done, plain, nest, Func, Module}
+use Rattle.wa_types.specs.Typing.{Around, Takes, gets, listed, Types, Typed}
 use Rattle.wa_types.specs.Validity.{Valid}
-use Rattle.run_theory.specs.Flat.{code_of, result_got}
+use Rattle.run_theory.specs.Flat.{code_of, followed_by, result_got}
 use Rattle.run_theory.specs.FlatFits.{one_run}
 use Rattle.run_theory.specs.FlatTyped.{StmtsTyped}
 use Rattle.run_theory.proofs.BaseValid.{base_has_memory}
@@ -22,14 +22,15 @@ use Rattle.run_theory.proofs.FittingNames.{type_small, func_type_small}
 use Rattle.run_theory.proofs.RuntimeValid.{behind}
 use Rattle.flat_laws.specs.Flatten.{flattened}
 use Rattle.flat_laws.specs.FlatModule.{extra_types}
-use Rattle.flat_laws.proofs.Typing.{wide, body_types, body_stmts}
+use Rattle.flat_laws.proofs.Typing.{wide, body_types, own_stmts}
 use Rattle.flat_laws.proofs.ValidModules.{good_body, own_result}
 use Rattle.guard_form.specs.Functions.{GuardedFunc, indices_of}
 use Rattle.guard_form.proofs.FrontTypes.{body_from_law}
-use Rattle.guard_form.proofs.PieceTypes.{pieces_law}
+use Rattle.frame_laws.specs.Function.{result_type, value_code}
+use Rattle.guard_form.proofs.PieceTypes.{pieces_law, types_then}
 use Rattle.guard_form.specs.Pieces.{first_piece, units}
 use Rattle.slim_laws.specs.Typed.{types_same}
-use Rattle.slim_laws.specs.SlimModule.{SlimPieces, flat_terms}
+use Rattle.slim_laws.specs.SlimModule.{Pieces, SlimPieces, flat_terms}
 use Rattle.slim_laws.proofs.UnitsTyped.{typed_law}
 use Rattle.emitted_form.specs.CodesHold.{CodeTyped, three}
 use Rattle.emitted_form.specs.EmittedBy.{FrameCode, guarded_by, written_by}
@@ -40,6 +41,24 @@ use Rattle.emitted_form.proofs.WiderTypes.{longer, types_longer, state_there, ad
 pub runs_are : (ts : List ValType) → declared_locals (map one_run ts) ≡ ts
 runs_are [] = refl
 runs_are (t ∷ ts) = ap (λ us. t ∷ us) (runs_are ts)
+
+-- a result is a local, whatever labels are around
+result_anywhere : (c : Around) (ls more : List (Option ValType)) (o : Option ℕ) (outs ins : List ValType) → Types c ls (result_got o) outs ins → Types c more (result_got o) outs ins
+unfolding Types
+result_anywhere c ls more None outs ins h = h
+result_anywhere c ls more (Some x) outs ins h = h
+
+-- a value of its type
+value_typed : (c d : Around) (ls more : List (Option ValType)) (o : Option ℕ) (outs : List ValType) → Types c ls (result_got o) outs []
+    → Types d more (value_code (result_type c.locals o)) outs []
+unfolding Types
+value_typed c d ls more None outs h = h
+value_typed c d ls more (Some x) outs h = by (slice_get c.locals x) h.1 h.2
+  where
+    by : (t : Option ValType) → Takes (gets t) [] h.0 → h.0 ≡ outs → Types d more (value_code t) outs []
+    by None k e = absurd k
+    by (Some I32) k e = (h.0, k, e)
+    by (Some I64) k e = (h.0, k, e)
 
 -- ---- a function
 
@@ -119,33 +138,56 @@ module _ (m : Module) (s : Settings) (which : List Bool) (codes : (index : ℕ) 
     abbrev own : Option ValType
     own = (around m f).result
 
-    flat_body : Typed (wide m f) (nest a_block None (code_of (flattened m x f).body) (result_got (flattened m x f).result))
+    abbrev result : Option ℕ
+    result = (flattened m x f).result
+
+    flat_body : Typed (wide m f) (nest a_block None (code_of (flattened m x f).body) (result_got result))
     flat_body = body_types m f (func_type_small m v) (type_small m v) x (good_body m f body) (own_result m f)
 
-    result_typed : Types c (own ∷ []) (result_got (flattened m x f).result) (listed own) []
+    flat_result : Types (wide m f) (own ∷ []) (result_got result) (listed own) []
     unfolding Types
-    result_typed = to_written (own ∷ []) (result_got (flattened m x f).result) (listed own) [] flat_body.1
+    flat_result = flat_body.1
 
+    -- the result, inside any labels
+    result_typed : (ls : List (Option ValType)) → Types c ls (result_got result) (listed c.result) []
+    result_typed ls =
+        subst (λ q. Types c ls (result_got result) (listed q) []) (sym result_is)
+        (to_written ls (result_got result) (listed own) [] (result_anywhere (wide m f) (own ∷ []) ls result (listed own) [] flat_result))
+
+    returned : (ls : List (Option ValType)) → Types c ls (followed_by (result_got result) (plain return done)) [] []
+    unfolding Types
+    returned ls =
+        types_then c ls (result_got result) (plain return done) [] (listed c.result) [] (result_typed ls) ([], ([], sym (append-nil (listed c.result))), refl)
+
+    -- a value in its place
+    value_there : (ls : List (Option ValType)) → Types c ls (value_code (result_type flat_locals result)) (listed c.result) []
+    value_there ls =
+        let a : List ValType = map (λ (p : Pair). p.ty) (SlotPairs m f) in
+        let b : List ValType = map (λ (p : Pair). p.ty) (ResultPairs m f) in
+        subst (λ ts. Types c ls (value_code (result_type ts result)) (listed c.result) []) (sym (append_assoc (locals_of m f) a b))
+        (subst (λ q. Types c ls (value_code (result_type (wide m f).locals result)) (listed q) []) (sym result_is) (value_typed (wide m f) c (own ∷ []) ls result (listed own) flat_result))
+
+    -- inside its own block
     abbrev labels : List (Option ValType)
-    labels = None ∷ own ∷ []
+    labels = None ∷ None ∷ c.result ∷ []
 
     -- whose codes have their types has its type
     pub written_typed : SlimPieces m (Numbered m s which f) x f (codes x f).pieces → CodeTyped m x f (codes x f).restoring → CodeTyped m x f (codes x f).saving → Typed c g.body
     unfolding Types
     written_typed sp restores saves =
         let gf : GuardedFunc = guarded_by m s which codes x f in
-        let ends : own ≡ c.result = sym result_is in
-        let result : Types c (c.result ∷ []) (result_got (flattened m x f).result) (listed c.result) [] =
-        subst (λ q. Types c (q ∷ []) (result_got (flattened m x f).result) (listed q) []) ends result_typed in
-        let stmts : StmtsTyped c (None ∷ c.result ∷ []) (flattened m x f).body =
-        subst (λ q. StmtsTyped c (None ∷ q ∷ []) (flattened m x f).body) ends
-        (stmts_wider (wide m f) c to_written labels (flattened m x f).body (body_stmts m f (func_type_small m v) (type_small m v) x (good_body m f body) (own_result m f))) in
-        let ls : List (Option ValType) = None ∷ c.result ∷ [] in
+        let ps : Pieces = (codes x f).pieces in
+        let stmts : StmtsTyped c labels (flattened m x f).body =
+        stmts_wider (wide m f) c to_written labels (flattened m x f).body
+        (own_stmts m f (func_type_small m v) (type_small m v) (None ∷ c.result ∷ []) x (good_body m f body) (own_result m f)) in
         let first0 = first_piece (Numbered m s which f) 0 (flattened m x f).body in
         let units0 = units (Numbered m s which f) 0 (flattened m x f).body in
-        body_from_law c (indices_of (global_space m) gf) gf.exits (codes x f).restoring (codes x f).saving (flattened m x f).result gf.first gf.body state_is index_is
-        (restores c (None ∷ c.result ∷ []) memory_is address_is locals_are)
-        (saves c (None ∷ c.result ∷ []) memory_is address_is locals_are)
-        result
-        (typed_law c ls (flat_terms m (Numbered m s which f) x f) 0 (sp.out ∷ []) sp.out sp.here [] first0 gf.first units0 gf.body [] sp.slim types_same
-        (pieces_law c (None ∷ c.result ∷ []) (Numbered m s which f) 0 (flattened m x f).body stmts))
+        body_from_law c (indices_of (global_space m) gf) (followed_by (codes x f).restoring) gf.saving done gf.body state_is index_is
+        (λ ls next outs h. types_then c ls (codes x f).restoring next outs [] [] (restores c ls memory_is address_is locals_are) h)
+        (types_then c (c.result ∷ []) (codes x f).saving (value_code (result_type flat_locals result)) (listed c.result) [] []
+        (saves c (c.result ∷ []) memory_is address_is locals_are) (value_there (c.result ∷ []))) (
+          refl,
+          typed_law c labels (flat_terms m (Numbered m s which f) x f) 0 (sp.out ∷ []) sp.out sp.here [] first0 ps.first units0 ps.units [] sp.slim types_same
+              (pieces_law c labels (Numbered m s which f) 0 (flattened m x f).body stmts),
+          returned (None ∷ c.result ∷ []),
+        )

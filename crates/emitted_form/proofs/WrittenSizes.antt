@@ -13,13 +13,13 @@ use Rattle.wa_types.specs.Validity.{Valid}
 use Rattle.run_theory.specs.Growth.{Each}
 use Rattle.wa_model.specs.Rewrites.{instructions_and_labels}
 use Rattle.frame_laws.specs.Layout.{kept, gap, kept_count, Layout, fields_size, placed, spilled_by, restore_code, save_code}
-use Rattle.frame_laws.proofs.FrameSizes.{function_size, function_depth}
+use Rattle.frame_laws.proofs.FrameSizes.{function_size, function_depth, restore_size, restore_depth}
 use Rattle.slot_laws.proofs.Few.{slots_are_few}
 use Rattle.emitted_form.specs.CodesHold.{AllCodesHold, AllSlim, CodeQuiet, codes_size}
 use Rattle.emitted_form.specs.Emitted.{is_kept, field_where, frame_layout, layout_codes}
 use Rattle.emitted_form.proofs.EmittedBy.{defined_where}
 use Rattle.emitted_form.proofs.Marks.{Marking, marks_of, marks_saving, marks_restoring, call_marking, calls_are, table_marking, lists_few}
-use Rattle.emitted_form.proofs.SizesBy.{body_size, code_weighs, counts_less, inner_depths}
+use Rattle.emitted_form.proofs.SizesBy.{code_weighs, counts_less}
 use Rattle.slim_laws.specs.SlimModule.{Pieces}
 use Rattle.emitted_form.proofs.WrittenTypes.{restoring_typed, saving_typed}
 
@@ -60,20 +60,16 @@ module _ (l : Layout) where
   both_size : instructions_and_labels restoring + instructions_and_labels saving ≡ 28 + 6 * kept_count l.fields
   unfolding instructions_and_labels
   both_size =
-      let a = function_size 0 l done None in
-      let b = body_size 0 restoring saving done None in omega arith
+      let a = function_size l done None in
+      let b = restore_size l done in omega arith
 
   pub restoring_depth : depth_of restoring ≤ 1
   unfolding depth_of
-  restoring_depth =
-      let a = function_depth 0 l done None in
-      let b = (inner_depths 0 restoring saving done None).0 in omega arith
+  restoring_depth = let a = restore_depth l done in omega arith
 
   pub saving_depth : depth_of saving ≤ 1
   unfolding depth_of
-  saving_depth =
-      let a = function_depth 0 l done None in
-      let b = (inner_depths 0 restoring saving done None).1 in omega arith
+  saving_depth = let a = function_depth l done None in omega arith
 
   unmarked_restoring : {X : Type 0} (k : Marking X) → marks_of k restoring ≡ []
   unmarked_restoring k = marks_restoring k (spilled_by l) (fields_size l.fields) (placed 0 l.fields) done

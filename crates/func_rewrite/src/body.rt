@@ -17,7 +17,7 @@ ghost use Rattle.func_rewrite.specs.Frames.{IsFlattened};
 
 use flatten::Flattened;
 use local_spill::{Layout, RuntimeIds, restoring, saving};
-use slim_rewrite::guard_slim;
+use slim_rewrite::{Slots, guard_slim};
 use std::alloc::{AllocError, Global};
 use wa_types::{Instr, ValType, Value};
 
@@ -87,9 +87,11 @@ pub fn body_around(
         → IsSlimBody m numbers.now state flat.old.func.func f (code restored.items) (code saved.items) (code v.items)) }
 {
     let given = result_type(&flat.func.locals, flat.func.result);
-    let low = flat.first_slot;
-    let slots = (flat.first_result - low) as usize;
-    let guarded = guard_slim(alloc, &mut flat.func, numbers, state, low, slots, restored)?;
+    let slots = Slots {
+        low: flat.first_slot,
+        count: (flat.first_result - flat.first_slot) as usize,
+    };
+    let guarded = guard_slim(alloc, &mut flat.func, numbers, state, slots, restored)?;
     with_end(alloc, guarded, saved, given)
 }
 

@@ -8,14 +8,14 @@ use Rattle.wa_types.specs.declared.values.Value.TheVariants as V
 use Rattle.run_theory.specs.Flat.{followed_by}
 use Rattle.frame_laws.specs.Layout.{FrameField, Layout, fields_size, frame_size, gap, kept, loads, restore_code, save_code, stores}
 
-stores_then : (sp off : ℕ) (ps : List FrameField) (c d : Code) → followed_by (stores sp off ps c) d ≡ stores sp off ps (followed_by c d)
+pub stores_then : (sp off : ℕ) (ps : List FrameField) (c d : Code) → followed_by (stores sp off ps c) d ≡ stores sp off ps (followed_by c d)
 unfolding followed_by
 stores_then sp off [] c d = refl
 stores_then sp off (kept x I32 ∷ ps) c d = ap (λ z. plain (local_get sp) (plain (local_get x) (plain (basic (store 0x36 2 off)) z))) (stores_then sp (off + width I32) ps c d)
 stores_then sp off (kept x I64 ∷ ps) c d = ap (λ z. plain (local_get sp) (plain (local_get x) (plain (basic (store 0x37 3 off)) z))) (stores_then sp (off + width I64) ps c d)
 stores_then sp off (gap t ∷ ps) c d = stores_then sp (off + width t) ps c d
 
-loads_then : (sp off : ℕ) (ps : List FrameField) (c d : Code) → followed_by (loads sp off ps c) d ≡ loads sp off ps (followed_by c d)
+pub loads_then : (sp off : ℕ) (ps : List FrameField) (c d : Code) → followed_by (loads sp off ps c) d ≡ loads sp off ps (followed_by c d)
 unfolding followed_by
 loads_then sp off [] c d = refl
 loads_then sp off (kept x I32 ∷ ps) c d = ap (λ z. plain (local_get sp) (plain (basic (load 0x28 2 off)) (plain (local_set x) z))) (loads_then sp (off + width I32) ps c d)

@@ -10,7 +10,7 @@ use Rattle.guard_runs.specs.Joined.{one_frame}
 use Rattle.headline.proofs.Sizes.{counts}
 use Rattle.slim_laws.specs.SlimModule.{Pieces}
 use Rattle.slot_laws.proofs.Few.{slots_are_few}
-use Rattle.headline.specs.EmittedModule.{kept_frames, lay_at, layout_of}
+use Rattle.headline.specs.EmittedModule.{kept_frames, lay_at, layout_of, result_at}
 use Rattle.headline.proofs.PauseCosts.{keeps_few}
 use Rattle.headline.proofs.WrittenLocals.{index_of}
 use Rattle.image_laws.proofs.ApartLevels.{ApartCall, ApartCalls}
@@ -23,5 +23,6 @@ all_apart m s which pieces keep valid x f is told k place number =
     let i = index_of m x f is in
     let few = slots_are_few m i.0 f valid i.2 in
     let weigh = counts m (pruned f.body) in
-    let r : ApartCall m f (one_frame (layout_of m s which keep x f)) = record { less = omega arith; cost = omega arith } in
-    subst (λ (z : Layout). ApartCall m f (one_frame z)) same r
+    let result = result_at m s which keep x (defined_at m x) in
+    let r : ApartCall m f (one_frame (layout_of m s which keep x f) (result_at m s which keep x (defined_at m x))) = record { less = omega arith; cost = omega arith } in
+    subst (λ (z : Layout). ApartCall m f (one_frame z result)) same r

@@ -44,7 +44,7 @@ use Rattle.headline.proofs.NumberedStacks.{AllAtNumbers, AtNumber, space_below}
 use Rattle.headline.proofs.PairedFlat.{base_defined, base_locals, core_fits}
 use Rattle.headline.proofs.PairedStacks.{AllPairs, PairAt, call_frame_is}
 use Rattle.headline.proofs.Standing.{the_guards}
-use Rattle.emitted_form.proofs.PassingWeight.{passing_few}
+use Rattle.emitted_form.proofs.PassingWeight.{passing_few, result_few}
 use Rattle.image_laws.specs.Image.{rewind_bound, unwind_bound}
 use Rattle.image_laws.proofs.Apart.{ApartSums, rewound, unwound}
 
@@ -116,7 +116,7 @@ module _ (m : Module) (s : Settings) (which : List Bool) (frames : (index : ℕ)
       call_apart : ApartCall m num.func ((frames a.func).frame_at (place_of (Some num.func) a.code a.labels))
       call_apart = apart a.func num.func defined pr.told n here number
 
-      passed : passing f.first f.body ≤ 17 * code_weight m (pruned (num.func).body) + 3
+      passed : passing f.first f.body ≤ 17 * code_weight m (pruned (num.func).body) + 8
       passed =
           let ps = Numbered m s which num.func in
           let body = (flattened (Base m) a.func num.func).body in
@@ -124,8 +124,10 @@ module _ (m : Module) (s : Settings) (which : List Bool) (frames : (index : ℕ)
           let few = passing_few m a.func num.func (Numbered m s which num.func) in
           let less = passing_law (flat_terms (Base m) ps a.func num.func) 0 (sp.out ∷ []) sp.out sp.here (first_piece ps 0 body) (frames a.func).pieces.first (units ps 0 body)
           (frames a.func).pieces.units sp.slim in
-          let both : passing (frames a.func).pieces.first (frames a.func).pieces.units ≤ 17 * code_weight m (pruned (num.func).body) + 3 = omega arith in
-          subst (λ (z : GuardedFunc). passing z.first z.body ≤ 17 * code_weight m (pruned (num.func).body) + 3) f_is both
+          let end = result_few (flattened (Base m) a.func num.func).result in
+          let own : GuardedFunc = guarded_of m s which frames a.func num.func in
+          let both : passing own.first own.body ≤ 17 * code_weight m (pruned (num.func).body) + 8 = omega arith in
+          subst (λ (z : GuardedFunc). passing z.first z.body ≤ 17 * code_weight m (pruned (num.func).body) + 8) f_is both
 
       found : weight_of_found m (defined_at m (suspended (Base m) a).func) ≡ Weight m num.func
       found = ap (weight_of_found m) defined
@@ -134,7 +136,7 @@ module _ (m : Module) (s : Settings) (which : List Bool) (frames : (index : ℕ)
       lay_is = call_frame_is m s which frames plan p a act pr num.func defined
 
       pub one_apart : (unwinding (written_of st f (k.lay act)) 4 + 1 ≤ unwind_bound m (suspended (Base m) a))
-          × (param_count (func_type_at v.flat fn) + (2 * length slots + 1 + rewinding (written_of st f (k.lay act)) (passing f.first f.body)) ≤ rewind_bound m (suspended (Base m) a))
+          × (param_count (func_type_at v.flat fn) + (2 * length slots + 1 + rewinding (written_of st f (k.lay act)) (passing f.first f.body + 3)) ≤ rewind_bound m (suspended (Base m) a))
       one_apart =
           let c = call_apart in
           let c1 = c.less in

@@ -26,6 +26,8 @@ use Rattle.headline.proofs.PauseCosts.{kept_framed}
 use Rattle.headline.proofs.StackAgain.{stacks_stand}
 use Rattle.slim_laws.specs.SlimModule.{Pieces}
 use Rattle.call_frames.specs.PlainFrames.{SavedParts, frames_of}
+use Rattle.frame_laws.specs.Function.{result_type}
+use Rattle.flat_laws.specs.Flatten.{flattened}
 use Rattle.emitted_form.specs.SameLive.{SameLive}
 use Rattle.emitted_form.proofs.LiveRelation.{live_stands}
 use Rattle.emitted_form.proofs.LiveAgain.{live_stacks_stand}
@@ -90,7 +92,8 @@ module _ (m : Module) (s : Settings) (which : List Bool) (pieces : (index : ℕ)
   less x f place is =
       let c = frames_of (parts x) in
       let k : ℕ = unwrap_or (call_number m s which f place) 0 in
-      let here : (call_frame (frames_of (parts x)) k).restore_most ≤ (call_frame (frames_of (parts x)) k).save_most = omega arith in
+      let result = result_type (flattened (Base m) x f).locals (flattened (Base m) x f).result in
+      let here : (call_frame (frames_of (parts x)) result k).restore_most ≤ (call_frame (frames_of (parts x)) result k).save_most = omega arith in
       subst (λ (z : Framing). (z.frame_at place).restore_most ≤ (z.frame_at place).save_most) (sym (frames_are m s which pieces parts r x f is)) here
 
   apart : ApartCalls m s which framing

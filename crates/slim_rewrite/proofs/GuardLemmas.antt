@@ -3,11 +3,14 @@ use Rattle.std.proofs.Common.{◌≡◌, ℕ, suc, ◌+◌, ◌<◌, ◌≤◌, 
 use Rattle.std.specs.Prelude.{◌||◌, if◌then◌else◌}
 use Rattle.wa_types.specs.Pausing.{Callee}
 use Rattle.wa_types.specs.Counts.{depth_of}
-use Rattle.wa_types.specs.Syntax.{Code}
-use Rattle.run_theory.specs.Flat.{FlatFunc, Stmts, no_more, computes, copies, calls, leaps, leaps_if, leaps_by, nests, decides, halts, code_of, followed_by, last_of}
+use Rattle.wa_types.specs.declared.instrs.Instr.{Instr}
+use Rattle.wa_types.specs.Syntax.{Code, done}
+use Rattle.wa_types.specs.View.{code}
+use Rattle.wa_types.proofs.ViewLemmas.{code_none}
+use Rattle.run_theory.specs.Flat.{FlatFunc, Stmts, no_more, computes, copies, calls, leaps, leaps_if, leaps_by, nests, decides, halts, code_of, followed_by, last_of, result_got}
 use Rattle.run_theory.specs.FlatFits.{FlatFits}
-use Rattle.guard_form.specs.Guarded.{guarded_body, guarded_code}
-use Rattle.guard_form.specs.Pieces.{call_total, first_piece, flat_units, holds_call, if_unit, nest_unit, numbered, numbers_in, unit_call, units}
+use Rattle.guard_form.specs.Guarded.{block_unit, guarded_body, guarded_code}
+use Rattle.guard_form.specs.Pieces.{Units, call_total, first_piece, flat_units, holds_call, if_unit, nest_unit, numbered, numbers_in, unit_call, units}
 use Rattle.guard_form.proofs.Grouped.{joins}
 use Rattle.flow_rewrite.specs.Raising.{LabelsBelow, Raisable}
 use Rattle.flow_rewrite.proofs.FitLemmas.{whole_raisable}
@@ -83,8 +86,8 @@ numbers_few ps n (decides c a b rest) = by (holds_call ps n a || holds_call ps (
     by false ia ib ih = omega arith
 numbers_few ps n (halts rest) = numbers_few ps n rest
 
-flat_raised : (g : FlatFunc) → FlatFits g → Raisable 0 2 (code_of g.body)
-flat_raised g fits = let s = fits.shallow in whole_raisable (length g.locals) 1 g.body fits.statements (omega (arith, s))
+flat_raised : (g : FlatFunc) → FlatFits g → Raisable 1 2 (code_of g.body)
+flat_raised g fits = let s = fits.shallow in let q = whole_raisable (length g.locals) 1 g.body fits.statements (omega (arith, s)) in record { few = q.few; labels = q.labels; shallow = omega (arith, s) }
 
 -- ---- slim pieces
 
@@ -102,7 +105,7 @@ module _ (ps : List ℕ) (low count : ℕ) (g : FlatFunc) (p : Pieces) (fits : F
   whole_slim = subst (λ c. Slims t 0 (free_by t.slot [] ∷ []) (free_by t.slot []) (free_by t.slot []) [] c whole) (joins ps 0 g.body)
       (units_law t 0 (free_by t.slot [] ∷ []) (free_by t.slot []) (free_by t.slot []) [] (first_piece ps 0 g.body) (first_code p) (units ps 0 g.body) (units_in p) slim)
 
-  slim_raised : Raisable 0 2 whole
+  slim_raised : Raisable 1 2 whole
   slim_raised =
       let flat = flat_raised g fits in
       let d = (slimmer_law t 0 (free_by t.slot [] ∷ []) (free_by t.slot []) (free_by t.slot []) [] (first_piece ps 0 g.body) (first_code p) (units ps 0 g.body) (units_in p) 0 slim).depth in
@@ -117,23 +120,58 @@ module _ (ps : List ℕ) (low count : ℕ) (g : FlatFunc) (p : Pieces) (fits : F
 
 -- ---- plain pieces
 
-pub plain_raised : (ps : List ℕ) (g : FlatFunc) (p : Pieces) → FlatFits g → ArePlain ps g p → Raisable 0 2 (followed_by (first_code p) (flat_units (units_in p)))
-plain_raised ps g p fits h = subst (Raisable 0 2) (sym ((λ j. followed_by (h.first j) (flat_units (h.units j))) ∙ joins ps 0 g.body)) (flat_raised g fits)
+plain_raised : (ps : List ℕ) (g : FlatFunc) (p : Pieces) → FlatFits g → ArePlain ps g p → Raisable 1 2 (followed_by (first_code p) (flat_units (units_in p)))
+plain_raised ps g p fits h = subst (Raisable 1 2) (sym ((λ j. followed_by (h.first j) (flat_units (h.units j))) ∙ joins ps 0 g.body)) (flat_raised g fits)
 
-pub plain_few : (ps : List ℕ) (g : FlatFunc) (p : Pieces) → call_total g.body < 2 ^ 32 → ArePlain ps g p → numbers_in (units_in p) < 2 ^ 32
+plain_few : (ps : List ℕ) (g : FlatFunc) (p : Pieces) → call_total g.body < 2 ^ 32 → ArePlain ps g p → numbers_in (units_in p) < 2 ^ 32
 plain_few ps g p few h = let lt = numbers_few ps 0 g.body in let e = ap numbers_in h.units in omega (arith, lt, e, few)
-
-pub plain_code : (ps : List ℕ) (state index : ℕ) (g : FlatFunc) (p : Pieces) (c : Code) → ArePlain ps g p → index ≡ length g.locals
-    → c ≡ guarded_body (record { state = state; index = index; one_call = false }) false (first_code p) (units_in p) → c ≡ guarded_code state ps g
-plain_code ps state index g p c h e is = is ∙ (λ j. guarded_body (record { state = state; index = e j; one_call = false }) false (h.first j) (h.units j))
 
 -- ---- either
 
-pub pieces_raised : (ps : List ℕ) (low count : ℕ) (g : FlatFunc) (p : Pieces) → FlatFits g → call_total g.body < 2 ^ 32 → SlimOrPlain ps low count g p
-    → Raisable 0 2 (followed_by (first_code p) (flat_units (units_in p)))
-pieces_raised ps low count g p fits few (are_slim h) = slim_raised ps low count g p fits few h
-pieces_raised ps low count g p fits few (are_plain h) = plain_raised ps g p fits h
+either_raised : (ps : List ℕ) (low count : ℕ) (g : FlatFunc) (p : Pieces) → FlatFits g → call_total g.body < 2 ^ 32 → SlimOrPlain ps low count g p
+    → Raisable 1 2 (followed_by (first_code p) (flat_units (units_in p)))
+either_raised ps low count g p fits few (are_slim h) = slim_raised ps low count g p fits few h
+either_raised ps low count g p fits few (are_plain h) = plain_raised ps g p fits h
 
-pub pieces_few : (ps : List ℕ) (low count : ℕ) (g : FlatFunc) (p : Pieces) → FlatFits g → call_total g.body < 2 ^ 32 → SlimOrPlain ps low count g p → numbers_in (units_in p) < 2 ^ 32
-pieces_few ps low count g p fits few (are_slim h) = slim_few ps low count g p fits few h
-pieces_few ps low count g p fits few (are_plain h) = plain_few ps g p few h
+either_few : (ps : List ℕ) (low count : ℕ) (g : FlatFunc) (p : Pieces) → FlatFits g → call_total g.body < 2 ^ 32 → SlimOrPlain ps low count g p → numbers_in (units_in p) < 2 ^ 32
+either_few ps low count g p fits few (are_slim h) = slim_few ps low count g p fits few h
+either_few ps low count g p fits few (are_plain h) = plain_few ps g p few h
+
+-- ---- in a block of their own
+
+got_labels : (o : Option ℕ) → LabelsBelow (2 ^ 31) (followed_by (result_got o) done)
+unfolding followed_by
+got_labels None = tt
+got_labels (Some x) = (tt, tt)
+
+got_depth : (o : Option ℕ) → depth_of (followed_by (result_got o) done) ≡ 0
+unfolding depth_of followed_by
+got_depth None = refl
+got_depth (Some x) = refl
+
+block_raised : (first : Code) (us : Units) (o : Option ℕ) → Raisable 1 2 (followed_by first (flat_units us)) → Raisable 0 2 (followed_by done (flat_units (block_unit first us o)))
+unfolding depth_of followed_by
+block_raised first us o h = let s = h.shallow in let d = got_depth o in record { few = h.few; labels = (h.labels, got_labels o); shallow = omega (arith, s, d) }
+
+-- The pieces of a function, in a block of their own.
+pub record InBlock (p w : Pieces) (result : Option ℕ) : Type 0 where
+  pub first : first_code w ≡ done
+  pub units : units_in w ≡ block_unit (first_code p) (units_in p) result
+
+pub in_block_is : (p w : Pieces) (result : Option ℕ) → w.first.items ≡ [] → units_in w ≡ block_unit (first_code p) (units_in p) result → InBlock p w result
+in_block_is p w result none us = record { first = ap code none ∙ code_none; units = us }
+
+module _ (ps : List ℕ) (low count : ℕ) (g : FlatFunc) (p w : Pieces) (result : Option ℕ) (fits : FlatFits g) (few : call_total g.body < 2 ^ 32) (h : SlimOrPlain ps low count g p)
+    (inside : InBlock p w result) where
+  pub pieces_raised : Raisable 0 2 (followed_by (first_code w) (flat_units (units_in w)))
+  pieces_raised = subst (Raisable 0 2) (sym (λ j. followed_by (inside.first j) (flat_units (inside.units j)))) (block_raised (first_code p) (units_in p) result (either_raised ps low count g p fits few h))
+
+  pub pieces_few : numbers_in (units_in w) < 2 ^ 32
+  pieces_few = let lt = either_few ps low count g p fits few h in let e = ap numbers_in inside.units in omega (arith, lt, e)
+
+pub plain_code : (ps : List ℕ) (state index : ℕ) (none : List Instr) (g : FlatFunc) (p w : Pieces) (c : Code) → ArePlain ps g p → InBlock p w g.result → index ≡ length g.locals → none ≡ []
+    → c ≡ guarded_body (record { state = state; index = index; one_call = false }) (followed_by (code none)) (first_code w) (units_in w) → c ≡ guarded_code state ps g
+unfolding followed_by
+plain_code ps state index none g p w c h inside e empty is =
+    is ∙ (λ j. guarded_body (record { state = state; index = e j; one_call = false }) (followed_by ((ap code empty ∙ code_none) j)) (inside.first j) (inside.units j))
+    ∙ (λ j. guarded_body (record { state = state; index = length g.locals; one_call = false }) (λ c. c) done (block_unit (h.first j) (h.units j) g.result))
