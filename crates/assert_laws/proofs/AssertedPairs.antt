@@ -1,11 +1,11 @@
 -- The flat and the written module with asserts are paired, function by function.
-use Rattle.std.proofs.Common.{◌≡◌, ◌∙◌, ℕ, ◌+◌, ◌++◌, [], length, Option, Some, None, Bool, true, false, refl, sym, ap, subst}
-use Rattle.std.specs.Prelude.{not, nat_eq, if◌then◌else◌}
+use Rattle.std.proofs.Common.{◌≡◌, ◌∙◌, ℕ, suc, ◌+◌, ◌++◌, [], length, Option, Some, None, Bool, true, false, refl, sym, ap, subst}
+use Rattle.std.specs.Prelude.{◌&&◌, ◌||◌, nat_lt, not, if◌then◌else◌}
 use Rattle.wa_types.specs.Modules.{declared_locals, defined_at, func_imports, func_type_at, type_at}
 use Rattle.wa_types.specs.Pausing.{Callee, callee, calls_of}
 use Rattle.wa_types.specs.Pruned.{pruned}
 use Rattle.wa_types.specs.Runtime.{global_space}
-use Rattle.wa_types.specs.Syntax.{Code, done, plain, nest, branch, Func, Module}
+use Rattle.wa_types.specs.Syntax.{a_block, a_loop, Code, done, plain, nest, branch, Func, Module}
 use Rattle.run_theory.specs.Flat.{followed_by}
 use Rattle.wa_model.specs.Step.{memory_max, param_count}
 use Rattle.guard_form.specs.Asserts.{any_callee, assert_code, asserted, asserted_reached, tested_behind}
@@ -13,8 +13,8 @@ use Rattle.guard_form.proofs.AssertedCode.{reached_law}
 use Rattle.assert_laws.specs.AssertedUnits.{asserted_units, UnitsUntested}
 use Rattle.assert_laws.proofs.GuardedAsserts as G
 use Rattle.guard_form.specs.Functions.{Calls, CallsIn, PiecesIn, Room, deeper, Role, RoleCalls, as_is, extra_types, flat_code, size_of, with_guards, written_code}
-use Rattle.guard_form.specs.Guarded.{guard_indices, has_one_call, written_body}
-use Rattle.guard_form.specs.Pieces.{Units, no_unit, call_unit, nest_unit, if_unit}
+use Rattle.guard_form.specs.Guarded.{first_alone, guard_indices, leaves_first, written_body}
+use Rattle.guard_form.specs.Pieces.{Units, no_unit, call_unit, nest_unit, if_unit, numbers_in}
 use Rattle.guard_runs.specs.Alike.{Paired, sides_of}
 use Rattle.guard_runs.specs.Beside.{Twin, both_defined, both_import}
 use Rattle.guard_runs.specs.Stopped.{UnitsNumbered}
@@ -70,8 +70,23 @@ module _ (n : Callee → Bool) (st : ℕ) where
   flat_too false (with_guards f) e h = absurd e
   flat_too true (with_guards f) e h = sym (G.flat_law t st f.first f.body (untested f.body h.2))
 
-  one_same : (exits : Bool) (us : Units) → has_one_call exits (asserted_units (λ x. not (n x)) st us) ≡ has_one_call exits us
-  one_same true us = ap (λ k. nat_eq k 1) (numbers_same t st us)
+  -- tests change nothing of which call stands in which loop
+  alone_same : (k : ℕ) (us : Units) → first_alone k (asserted_units (λ x. not (n x)) st us) ≡ first_alone k us
+  alone_same k no_unit = refl
+  alone_same k (call_unit slots x to behind rest) = alone_same (suc k) rest
+  alone_same k (nest_unit a_block first body behind rest) =
+      (λ i. alone_same k body i && first_alone (k + numbers_same t st body i) (asserted_units (λ x. not (n x)) st rest))
+      ∙ ap (λ b. first_alone k body && b) (alone_same (k + numbers_in body) rest)
+  alone_same k (nest_unit a_loop first body behind rest) =
+      (λ i. (nat_lt 0 k || nat_lt (numbers_same t st body i) 2) && (alone_same k body i && first_alone (k + numbers_same t st body i) (asserted_units (λ x. not (n x)) st rest)))
+      ∙ ap (λ b. (nat_lt 0 k || nat_lt (numbers_in body) 2) && (first_alone k body && b)) (alone_same (k + numbers_in body) rest)
+  alone_same k (if_unit c fa a fb b behind rest) =
+      (λ i. alone_same k a i && (first_alone (k + numbers_same t st a i) (asserted_units (λ x. not (n x)) st b)
+      && first_alone (k + numbers_same t st a i + numbers_same t st b i) (asserted_units (λ x. not (n x)) st rest)))
+      ∙ (λ i. first_alone k a && (alone_same (k + numbers_in a) b i && alone_same (k + numbers_in a + numbers_in b) rest i))
+
+  one_same : (exits : Bool) (us : Units) → leaves_first exits (asserted_units (λ x. not (n x)) st us) ≡ leaves_first exits us
+  one_same true us = alone_same 0 us
   one_same false us = refl
 
   -- the written code
@@ -81,7 +96,7 @@ module _ (n : Callee → Bool) (st : ℕ) where
   written_too false (with_guards f) e h = absurd e
   written_too true (with_guards f) e h =
       sym (G.written_law t st (guard_indices st f.size f.exits f.body) f.restoring f.saving f.first f.body (untested f.body h.2) h.0 h.1)
-      ∙ ap (λ o. written_body (record { state = st; index = f.size; one_call = o }) (followed_by f.restoring) f.saving (asserted t st f.first) (asserted_units t st f.body))
+      ∙ ap (λ o. written_body (record { state = st; index = f.size; first_unnoted = o }) (followed_by f.restoring) f.saving (asserted t st f.first) (asserted_units t st f.body))
       (sym (one_same f.exits f.body))
 
   extra_same : (r : Role) → extra_types (asserted_role (λ x. not (n x)) st r) ≡ extra_types r

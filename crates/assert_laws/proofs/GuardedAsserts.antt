@@ -1,5 +1,5 @@
 -- To assert the pieces is to assert what is written of them.
-use Rattle.std.proofs.Common.{◌≡◌, ◌∙◌, ℕ, suc, ◌+◌, List, [], ◌∷◌, ◌++◌, Option, Some, None, Bool, true, false, refl, sym, ap}
+use Rattle.std.proofs.Common.{◌≡◌, ◌∙◌, ℕ, zero, suc, ◌+◌, List, [], ◌∷◌, ◌++◌, Option, Some, None, Bool, true, false, refl, sym, ap}
 use Rattle.std.specs.Prelude.{if◌then◌else◌}
 use Rattle.wa_types.specs.Pausing.{Callee, direct, indirect, callee, callee_onto, calls_of}
 use Rattle.wa_types.specs.declared.values.ValType.TheVariants.{I32}
@@ -135,11 +135,12 @@ module _ (t : Callee → Bool) (st : ℕ) where
 
     noted_too : (l k : ℕ) (next : Code) → noted i l k (put next) ≡ put (noted i l k next)
     unfolding asserted
-    noted_too l k next = by i.one_call
+    noted_too l k next = by i.first_unnoted k
       where
-        by : (b : Bool) → index_noted b i.index k (plain (basic (global_get i.state)) (plain (br_if l) (put next))) ≡ put (index_noted b i.index k (plain (basic (global_get i.state)) (plain (br_if l) next)))
-        by true = refl
-        by false = refl
+        by : (b : Bool) (k : ℕ) → index_noted b i.index k (plain (basic (global_get i.state)) (plain (br_if l) (put next))) ≡ put (index_noted b i.index k (plain (basic (global_get i.state)) (plain (br_if l) next)))
+        by true zero = refl
+        by true (suc k) = refl
+        by false k = refl
 
     last_too : (e : Exit) (c : Code) → last_piece i e (put c) ≡ put (last_piece i e c)
     unfolding asserted

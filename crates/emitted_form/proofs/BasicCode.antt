@@ -1,5 +1,5 @@
 -- The constants and offsets of a written body are in range where those of the original are.
-use Rattle.std.proofs.Common.{ℕ, suc, ◌+◌, ◌-◌, ◌<◌, ◌^◌, List, [], ◌∷◌, ◌++◌, length, map, drop, Option, Some, None, Bool, true, false, refl, arith}
+use Rattle.std.proofs.Common.{ℕ, zero, suc, ◌+◌, ◌-◌, ◌<◌, ◌^◌, List, [], ◌∷◌, ◌++◌, length, map, drop, Option, Some, None, Bool, true, false, refl, arith}
 use Rattle.std.specs.Prelude.{slice_get, ◌||◌, if◌then◌else◌}
 use Rattle.wa_types.specs.declared.values.ValType.{ValType}
 use Rattle.wa_types.specs.declared.values.ValType.TheVariants.{I32, I64}
@@ -274,12 +274,13 @@ module _ (i : GuardIndices) (small : i.state < 2 ^ 32) where
   sought_fits label by k first next l h g = (small, ((tt, (l, (tt, (tt, tt)))), raised_fits 0 by first h, g))
 
   noted_fits : (label k : ℕ) (next : Code) → k < 2 ^ 32 → BasicsFit next → BasicsFit (noted i label k next)
-  noted_fits label k next l h = index_fits i.one_call (small, (tt, h))
+  noted_fits label k next l h = index_fits i.first_unnoted k l (small, (tt, h))
     where
-      index_fits : (one_call : Bool) → BasicsFit (plain (basic (global_get i.state)) (plain (br_if label) next))
-          → BasicsFit (index_noted one_call i.index k (plain (basic (global_get i.state)) (plain (br_if label) next)))
-      index_fits true g = g
-      index_fits false g = (l, (tt, g))
+      index_fits : (unnoted : Bool) (k : ℕ) → k < 2 ^ 32 → BasicsFit (plain (basic (global_get i.state)) (plain (br_if label) next))
+          → BasicsFit (index_noted unnoted i.index k (plain (basic (global_get i.state)) (plain (br_if label) next)))
+      index_fits true zero l g = g
+      index_fits true (suc k) l g = (l, (tt, g))
+      index_fits false k l g = (l, (tt, g))
 
   last_fits : (e : Exit) (c : Code) → BasicsFit c → BasicsFit (last_piece i e c)
   last_fits its_end c h = guarded_fits c done h tt

@@ -1,5 +1,5 @@
 -- What written code has of flat code: its calls, in order, and the lists of its branch tables.
-use Rattle.std.proofs.Common.{◌≡◌, ◌∙◌, ℕ, suc, ◌+◌, ◌<◌, List, [], ◌∷◌, ◌++◌, length, Option, Some, None, Bool, true, false, refl, sym, ap, append_assoc}
+use Rattle.std.proofs.Common.{◌≡◌, ◌∙◌, ℕ, zero, suc, ◌+◌, ◌<◌, List, [], ◌∷◌, ◌++◌, length, Option, Some, None, Bool, true, false, refl, sym, ap, append_assoc}
 use Rattle.std.proofs.lemmas.List.{append-nil, length-map}
 use Rattle.wa_types.specs.declared.values.ValType.{ValType}
 use Rattle.wa_types.specs.declared.values.ValType.TheVariants.{I32, I64}
@@ -135,15 +135,19 @@ module _ {X : Type 0} (k : Marking X) where
         ∙ ap (λ xs. xs ++ marks_of (raised 0 m a) ++ marks_of c) (marks_index n (num I32Ne) (plain (br_if l) done) ∙ unmarked (br_if l) done (k.on_br_if l))
         ∙ ap (λ xs. xs ++ marks_of c) (marks_raised 0 m a)
 
-    index_unmarked : (one_call : Bool) (n : ℕ) (c : Code) → marks_of (index_noted one_call i.index n c) ≡ marks_of c
-    index_unmarked true n c = refl
-    index_unmarked false n c =
+    index_set : (n : ℕ) (c : Code) → marks_of (plain (basic (const (V.I32 n))) (plain (local_set i.index) c)) ≡ marks_of c
+    index_set n c =
         unmarked (basic (const (V.I32 n))) (plain (local_set i.index) c) (k.on_basic (const (V.I32 n)))
         ∙ unmarked (local_set i.index) c (k.on_set i.index)
 
+    index_unmarked : (unnoted : Bool) (n : ℕ) (c : Code) → marks_of (index_noted unnoted i.index n c) ≡ marks_of c
+    index_unmarked true zero c = refl
+    index_unmarked true (suc n) c = index_set (suc n) c
+    index_unmarked false n c = index_set n c
+
     marks_noted : (l n : ℕ) (c : Code) → marks_of (noted i l n c) ≡ marks_of c
     marks_noted l n c =
-        index_unmarked i.one_call n (plain (basic (global_get i.state)) (plain (br_if l) c))
+        index_unmarked i.first_unnoted n (plain (basic (global_get i.state)) (plain (br_if l) c))
         ∙ unmarked (basic (global_get i.state)) (plain (br_if l) c) (k.on_basic (global_get i.state))
         ∙ unmarked (br_if l) c (k.on_br_if l)
 

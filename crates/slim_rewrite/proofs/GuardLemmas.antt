@@ -170,8 +170,8 @@ module _ (ps : List ℕ) (low count : ℕ) (g : FlatFunc) (p w : Pieces) (result
   pieces_few = let lt = either_few ps low count g p fits few h in let e = ap numbers_in inside.units in omega (arith, lt, e)
 
 pub plain_code : (ps : List ℕ) (state index : ℕ) (none : List Instr) (g : FlatFunc) (p w : Pieces) (c : Code) → ArePlain ps g p → InBlock p w g.result → index ≡ length g.locals → none ≡ []
-    → c ≡ guarded_body (record { state = state; index = index; one_call = false }) (followed_by (code none)) (first_code w) (units_in w) → c ≡ guarded_code state ps g
+    → c ≡ guarded_body (record { state = state; index = index; first_unnoted = false }) (followed_by (code none)) (first_code w) (units_in w) → c ≡ guarded_code state ps g
 unfolding followed_by
 plain_code ps state index none g p w c h inside e empty is =
-    is ∙ (λ j. guarded_body (record { state = state; index = e j; one_call = false }) (followed_by ((ap code empty ∙ code_none) j)) (inside.first j) (inside.units j))
-    ∙ (λ j. guarded_body (record { state = state; index = length g.locals; one_call = false }) (λ c. c) done (block_unit (h.first j) (h.units j) g.result))
+    is ∙ (λ j. guarded_body (record { state = state; index = e j; first_unnoted = false }) (followed_by ((ap code empty ∙ code_none) j)) (inside.first j) (inside.units j))
+    ∙ (λ j. guarded_body (record { state = state; index = length g.locals; first_unnoted = false }) (λ c. c) done (block_unit (h.first j) (h.units j) g.result))

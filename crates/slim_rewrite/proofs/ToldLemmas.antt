@@ -9,7 +9,7 @@ use Rattle.wa_types.specs.Modules.{around, locals_of}
 use Rattle.wa_types.specs.Syntax.{Code, Func, Module}
 use Rattle.run_theory.specs.Flat.{FlatFunc, followed_by}
 use Rattle.run_theory.specs.FlatFits.{FlatFits}
-use Rattle.guard_form.specs.Guarded.{block_unit, has_one_call, guarded_body}
+use Rattle.guard_form.specs.Guarded.{block_unit, leaves_first, guarded_body}
 use Rattle.guard_form.specs.Pieces.{first_piece, units}
 use Rattle.flat_laws.specs.FlatModule.{stacks_in}
 use Rattle.flat_laws.specs.Flatten.{flattened, names, place, result_of}
@@ -101,14 +101,14 @@ pieces_told ps low count g p fits (are_plain h) = plain_told ps low count g p h
 
 -- ---- guarded code
 
-pub guarded_told : (ps : List ℕ) (low count state index : ℕ) (one_call : Bool) (g : FlatFunc) (p w : Pieces) (r c : Code) → FlatFits g → SlimOrPlain ps low count g p → InBlock p w g.result
-    → index ≡ length g.locals → one_call ≡ has_one_call true (units_in w)
-    → c ≡ guarded_body (record { state = state; index = index; one_call = one_call }) (followed_by r) (first_code w) (units_in w) → GuardedTold ps low count state g r c
-guarded_told ps low count state index one_call g p w r c fits h inside e one is = λ m x f same low_is count_is.
+pub guarded_told : (ps : List ℕ) (low count state index : ℕ) (first_unnoted : Bool) (g : FlatFunc) (p w : Pieces) (r c : Code) → FlatFits g → SlimOrPlain ps low count g p → InBlock p w g.result
+    → index ≡ length g.locals → first_unnoted ≡ leaves_first true (units_in w)
+    → c ≡ guarded_body (record { state = state; index = index; first_unnoted = first_unnoted }) (followed_by r) (first_code w) (units_in w) → GuardedTold ps low count state g r c
+guarded_told ps low count state index first_unnoted g p w r c fits h inside e one is = λ m x f same low_is count_is.
     let us : units_in w ≡ block_unit (first_code p) (units_in p) (flattened m x f).result = inside.units ∙ ap (λ (z : FlatFunc). block_unit (first_code p) (units_in p) z.result) same in
     record {
       pieces = record { exits = true; first = first_code p; units = units_in p };
       slim = pieces_told ps low count g p fits h m x f same low_is count_is;
-      code = is ∙ (λ j. guarded_body (record { state = state; index = (e ∙ ap (λ (z : FlatFunc). length z.locals) same) j; one_call = (one ∙ ap (has_one_call true) us) j }) (followed_by r)
+      code = is ∙ (λ j. guarded_body (record { state = state; index = (e ∙ ap (λ (z : FlatFunc). length z.locals) same) j; first_unnoted = (one ∙ ap (leaves_first true) us) j }) (followed_by r)
           (inside.first j) (us j));
     }

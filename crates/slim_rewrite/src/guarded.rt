@@ -9,7 +9,7 @@ ghost use Rattle.flow_rewrite.specs.Emitting.{Rises};
 ghost use Rattle.slim_rewrite.specs.Told.{GuardedTold};
 
 use crate::function::pieces_of;
-use flow_rewrite::{Guards, guarded_pieces, has_one_call, in_own_block};
+use flow_rewrite::{Guards, guarded_pieces, leaves_first, in_own_block};
 use std::alloc::{AllocError, Global};
 use wa_model::FlatFunc;
 use wa_types::Instr;
@@ -45,7 +45,7 @@ pub fn guard_slim(
         alloc,
         state,
         index,
-        one_call: has_one_call(&whole),
+        first_unnoted: leaves_first(&whole),
     };
     guarded_pieces(&guards, restoring, &whole)
 }

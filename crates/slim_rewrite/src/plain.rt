@@ -64,7 +64,7 @@ pub fn guard(
         alloc,
         state,
         index: func.locals.len() as u32,
-        one_call: false,
+        first_unnoted: false,
     };
     let whole = in_own_block(alloc, pieces, func.result)?;
     let body = guarded_pieces(&guards, Vec::new(alloc), &whole)?;

@@ -18,7 +18,7 @@ guarded_pieces-requires-clause-few c =
 
 pub returns : goal.returns
 returns c = IfOk-weaker c.guarded_pieces.result _ _
-    (λ v is. guarded_told c.args.numbers.now c.args.slots.low c.args.slots.count c.args.state c.len-index.result c.has_one_call.result (flat_func_of c.args.func.now) c.in_ok-pieces.pieces
+    (λ v is. guarded_told c.args.numbers.now c.args.slots.low c.args.slots.count c.args.state c.len-index.result c.leaves_first.result (flat_func_of c.args.func.now) c.in_ok-pieces.pieces
     c.in_ok-whole.whole (code c.args.restoring.items) (code v.items) c.requires.fits c.in_ok-pieces.ensures
-    (in_block_is _ _ c.args.func.now.result c.in_ok-whole.ensures.first c.in_ok-whole.ensures.units) (c.len-index.ensures ∙ c.args.func.now.locals.ok.0) c.has_one_call.ensures is)
+    (in_block_is _ _ c.args.func.now.result c.in_ok-whole.ensures.first c.in_ok-whole.ensures.units) (c.len-index.ensures ∙ c.args.func.now.locals.ok.0) c.leaves_first.ensures is)
     c.guarded_pieces.ensures
