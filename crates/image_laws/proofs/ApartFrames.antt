@@ -5,7 +5,7 @@ use Rattle.wa_types.specs.Pausing.{Settings}
 use Rattle.wa_types.specs.Pruned.{pruned}
 use Rattle.wa_types.specs.Syntax.{Module}
 use Rattle.wa_types.specs.Validity.{Valid}
-use Rattle.frame_laws.specs.Layout.{Layout, kept}
+use Rattle.frame_laws.specs.Layout.{Layout}
 use Rattle.guard_runs.specs.Joined.{one_frame}
 use Rattle.headline.proofs.Sizes.{counts}
 use Rattle.slim_laws.specs.SlimModule.{Pieces}

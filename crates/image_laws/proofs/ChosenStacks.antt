@@ -116,7 +116,7 @@ holds_moved n extra extra2 all each (w ∷ ops) same holds =
 
 -- a layout that keeps nothing
 abbrev pub no_lay : Activation → CallFrame
-no_lay a = one_frame (record { address = 0; index = 0; scratch = 0; fields = [] })
+no_lay a = one_frame (record { address = 0; index = 0; scratch = 0; fields = [] }) None
 
 -- locals of the same types
 abbrev pub AllTyped : List Activation → List Activation → Type 0

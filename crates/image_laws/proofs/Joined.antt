@@ -1,5 +1,5 @@
 -- One emitted module comes to a pause, and another one goes on from its store; and what both may cost together.
-use Rattle.std.proofs.Common.{List, [], ap, arith, length, map, refl, subst, suc, sym, ℕ, ◌+◌, ◌++◌, ◌-◌, ◌∙◌, ◌∷◌, ◌≡◌, Option, Some, None}
+use Rattle.std.proofs.Common.{List, [], ap, arith, length, map, refl, subst, suc, sym, ℕ, ◌+◌, ◌++◌, ◌∙◌, ◌∷◌, ◌≡◌, Option, Some, None}
 use Rattle.wa_types.specs.Base.{Base}
 use Rattle.wa_types.specs.Bounds.{Bound}
 use Rattle.wa_types.specs.Modules.{all_globals, func_sorts, imported, imported_func}
