@@ -219,7 +219,8 @@ fn calls_without_a_number_stand_in_pieces(rt: HostRuntime) -> Result<(), Fail> {
 
 /// What stands for the code that restores a frame.
 fn restoring(alloc: Global) -> Result<Vec<Instr>, AllocError> {
-    vec![in alloc; Instr::GlobalGet(8), Instr::LocalSet(5)]
+    let code = vec![in alloc; Instr::GlobalGet(8), Instr::LocalSet(5)]?;
+    Ok(code)
 }
 
 /// The function of four calls as `guard_slim` writes it where no local is told as a slot, so that each operand stands in its
