@@ -9,7 +9,7 @@ ghost use Rattle.flow_rewrite.specs.Emitting.{Rises};
 ghost use Rattle.slim_rewrite.specs.Told.{GuardedTold};
 
 use crate::function::pieces_of;
-use flow_rewrite::{Guards, guarded_pieces, leaves_first, in_own_block};
+use flow_rewrite::{Guards, guarded_pieces, in_own_block, leaves_first};
 use std::alloc::{AllocError, Global};
 use wa_model::FlatFunc;
 use wa_types::Instr;
