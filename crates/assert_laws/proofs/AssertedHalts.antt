@@ -153,7 +153,7 @@ all_stop v told roles g _ _ (S.host e) (b ∷ bs) h = absurd h
 all_stop v told roles g _ _ (S.above fn lt is ls extra ops taken both i pl gt deep st) [] h = absurd h
 all_stop v told roles g _ _ (S.above {f = f} {k = k} {x = x} {xs = xs} {under = us} {under' = us'} fn lt is ls extra ops taken both i pl gt deep st) (b ∷ bs) h =
     let r = roles fn f is in
-    let n : v.numbered x ≡ true = (place_numbered v.numbered v.globals f k _ xs r.1 pl).0 in
+    let n : v.numbered x ≡ true = (place_numbered v.numbered v.globals f k _ xs r.1 pl.place).0 in
     let z : b ≡ true = h.0 x gt ∙ ap (λ c. c && v.numbered x) r.0 ∙ n in
     ap (λ c. c && list_all (λ d. d) bs) z ∙ all_stop v told roles fn us us' st bs h.1
 

@@ -344,11 +344,11 @@ module _ (m : Module) (s : Settings) (which : List Bool) (frames : (index : ℕ)
     stands_so table g c (a ∷ us) _ _ (S.above {f = f} {k = n} {slots = slots} {x = x} {to = to} {behind = behind} {rest = rest} {xs = xs} {under = under} {under' = under'} fn here is ls extra
         ops taken both h pl gt deep below) ps nums fit =
         let ih = stands_so table a.func fn us under under' below ps.1 nums.1 fit.1 in
-        let lv = level a table g nums.0 f n slots x to behind rest xs fn ls extra ops taken is pl ps.0 fit.0 in
-        let enough = weighs_enough a table g nums.0 f n slots x to behind rest xs fn ls extra ops taken is pl ps.0 fit.0 in
+        let lv = level a table g nums.0 f n slots x to behind rest xs fn ls extra ops taken is pl.place ps.0 fit.0 in
+        let enough = weighs_enough a table g nums.0 f n slots x to behind rest xs fn ls extra ops taken is pl.place ps.0 fit.0 in
         let f0 = fit.0 in (
           ((f0.found, f0.is), lv.uses, lv.address, lv.scratch, lv.below, lv.arms, lv.fields, lv.small, lv.kept, lv.took, ih.0),
-          (for_level a table g nums.0 f n slots x to behind rest xs fn ls extra ops taken is pl ps.0 fit.0 (level_at fn f n h slots x to behind rest xs ls extra ops taken) refl refl refl, ih.1),
+          (for_level a table g nums.0 f n slots x to behind rest xs fn ls extra ops taken is pl.place ps.0 fit.0 (level_at fn f n h slots x to behind rest xs ls extra ops taken) refl refl refl, ih.1),
           weigh_on fn under under' below (level_at fn f n h slots x to behind rest xs ls extra ops taken) (suspended (Base m) a) (map (suspended (Base m)) us) enough ih.2,
         )
 

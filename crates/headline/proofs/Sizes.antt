@@ -1,5 +1,5 @@
 -- How large and how deep rewritten functions are, and what they cost at a pause.
-use Rattle.std.proofs.Common.{false, ℕ, ◌+◌, ◌*◌, ◌≤◌, length, Option, Some, None, max, ap, arith}
+use Rattle.std.proofs.Common.{◌≡◌, false, ℕ, ◌+◌, ◌*◌, ◌≤◌, length, Option, Some, None, max, ap, arith}
 use Rattle.wa_types.specs.Bounds.{code_weight, plain_weight}
 use Rattle.wa_types.specs.Counts.{count_of, depth_of}
 use Rattle.wa_types.specs.Pruned.{pruned}

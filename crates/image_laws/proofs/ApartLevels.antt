@@ -172,7 +172,7 @@ module _ (m : Module) (s : Settings) (which : List Bool) (frames : (index : ℕ)
     sums table g c (a ∷ us) _ _ (above {f = f} {k = n} {slots = slots} {x = x} {to = to} {behind = behind} {rest = rest} {xs = xs} {under = under} {under' = under'} fn here is ls extra
         ops taken both h pl gt deep below) ps nums fit =
         let ih = sums table a.func fn us under under' below ps.1 nums.1 fit.1 in
-        let o = one_apart a table g nums.0 f n slots x to behind rest xs fn ls extra ops taken is pl ps.0 fit.0 in
+        let o = one_apart a table g nums.0 f n slots x to behind rest xs fn ls extra ops taken is pl.place ps.0 fit.0 in
         let u = sum_by-cons (unwind_bound m) (suspended (Base m) a) (S us) in
         let r = sum_by-cons (rewind_bound m) (suspended (Base m) a) (S us) in
         (omega (arith, ih.0, o.0), omega (arith, ih.1, o.1))
@@ -185,7 +185,7 @@ module _ (m : Module) (s : Settings) (which : List Bool) (frames : (index : ℕ)
     apart_sums table g c a us _ _ (above {f = f} {k = n} {slots = slots} {x = x} {to = to} {behind = behind} {rest = rest} {xs = xs} {under = under} {under' = under'} fn here is ls extra
         ops taken both h pl gt deep below) ps nums fit =
         let ih = sums table a.func fn us under under' below ps.1 nums.1 fit.1 in
-        let o = one_apart a table g nums.0 f n slots x to behind rest xs fn ls extra ops taken is pl ps.0 fit.0 in
+        let o = one_apart a table g nums.0 f n slots x to behind rest xs fn ls extra ops taken is pl.place ps.0 fit.0 in
         let u = sum_by-cons (unwind_bound m) (suspended (Base m) a) (S us) in
         let r = sum_by-cons (rewind_bound m) (suspended (Base m) a) (S us) in
         record { unwinds = omega (arith, ih.0, o.0); rewinds = omega (arith, ih.1, o.1) }

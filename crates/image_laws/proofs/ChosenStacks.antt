@@ -399,7 +399,7 @@ module _ (m : Module) (s : Settings) (which : List Bool) (frames : (index : ℕ)
     choose table g c (a ∷ us) _ _ (above {f = f} {k = n} {slots = slots} {x = x} {to = to} {behind = behind} {rest = rest} {xs = xs} {under = under} {under' = under'} fn here is ls extra
         ops taken both h pl gt deep below) ps nums fit at room held =
         let total = sum_by-cons (frame_of m s.policy) (suspended (Base m) a) (map (suspended (Base m)) us) in
-        let o = one_new a table g nums.0 f n slots x to behind rest xs fn ls extra ops taken is pl ps.0 fit.0 at (omega arith) held.0 in
+        let o = one_new a table g nums.0 f n slots x to behind rest xs fn ls extra ops taken is pl.place ps.0 fit.0 at (omega arith) held.0 in
         let ih = choose table a.func fn us under under' below ps.1 nums.1 fit.1 (at + frame_of m s.policy (suspended (Base m) a)) (omega arith) held.1 in
         let long : length o.locals ≡ length ls = typed_long o.locals ls o.types in
         let count = ih.count in
@@ -408,7 +408,7 @@ module _ (m : Module) (s : Settings) (which : List Bool) (frames : (index : ℕ)
           ws = waiting fn (o.locals ++ extra) ops taken (noted_code st f xs n to behind rest) (call_labels st f h xs n rest) ∷ ih.ws;
           stopped =
               above {k = n} {slots = slots} {x = x} {to = to} {behind = behind} {rest = rest} {xs = xs} fn here is o.locals extra ops taken
-              (record { size = long ∙ both.size; more = both.more; held = both.held }) h pl gt (omega arith) ih.stopped;
+              (record { size = long ∙ both.size; more = both.more }) h pl gt (omega arith) ih.stopped;
           pairs = (o.pair, ih.pairs);
           same = (record { func = refl; taken = refl; code = refl; labels = refl; operands = (ps.0).none; size = long; kept_same = λ y none. absurd none }, ih.same);
           types = (o.types, ih.types);
