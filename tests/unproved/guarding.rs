@@ -224,7 +224,8 @@ fn restoring(alloc: Global) -> Result<Vec<Instr>, AllocError> {
 }
 
 /// The function of four calls as `guard_slim` writes it where no local is told as a slot, so that each operand stands in its
-/// local: the first test of the state restores the frame, inside the blocks around it and in front of what seeks the call.
+/// local: the first test of the state restores the frame, inside the blocks around it and in front of what seeks the call. Call 0
+/// isn't noted.
 const FOUR_CALLS_RESTORED: &str = "[\
     Block { result: None, body: [\
     Block { result: None, body: [\
@@ -233,7 +234,7 @@ const FOUR_CALLS_RESTORED: &str = "[\
     GlobalGet(8), LocalSet(5), LocalGet(4), Const(I32(0)), Num(I32Ne), BrIf(1)], else_arm: [\
     LocalGet(0), If { result: None, then_arm: [Br(4)], else_arm: [\
     LocalGet(0), BrTable { labels: [0, 3], last: 4 }] }] }, \
-    Call(0), Const(I32(0)), LocalSet(4), GlobalGet(7), BrIf(3), \
+    Call(0), GlobalGet(7), BrIf(3), \
     LocalGet(3), Call(1), LocalSet(3), \
     LocalGet(3), BrIf(2)] }, \
     GlobalGet(7), If { result: Some(I32), then_arm: [LocalGet(4), Const(I32(2)), Num(I32LtU)], else_arm: [\
@@ -305,5 +306,53 @@ fn the_first_test_restores_the_frame(rt: HostRuntime) -> Result<(), Fail> {
     let mut flat = flattened(alloc, COUNTDOWN, &[false, true])?;
     let written = guard_slim(alloc, &mut flat.funcs[0], &[0], 0, none, restoring(alloc)?)?;
     assert_eq!(rt; shown(alloc, &written)?.as_str(), COUNTDOWN_RESTORED);
+    Ok(())
+}
+
+/// A function of these statements, without locals.
+fn bare_func(alloc: Global, body: Vec<Stmt>) -> FlatFunc {
+    FlatFunc {
+        func: 9,
+        sort: 4,
+        locals: Vec::new(alloc),
+        result: None,
+        body,
+    }
+}
+
+/// Two calls in one loop, of which the first is noted too.
+const CALLS_IN_ONE_LOOP: &str = "[\
+    Block { result: None, body: [\
+    GlobalGet(7), If { result: None, then_arm: [GlobalGet(8), LocalSet(5)], else_arm: [] }, \
+    Loop { result: None, body: [\
+    Block { result: None, body: [\
+    GlobalGet(7), If { result: None, then_arm: [LocalGet(0), Const(I32(0)), Num(I32Ne), BrIf(1)], else_arm: [] }, \
+    Call(0), Const(I32(0)), LocalSet(0), GlobalGet(7), BrIf(3)] }, \
+    Call(0), Const(I32(1)), LocalSet(0), GlobalGet(7), BrIf(2)] }] }, \
+    Return]";
+
+/// The first alone in a loop, which then isn't noted.
+const FIRST_ALONE_IN_A_LOOP: &str = "[\
+    Block { result: None, body: [\
+    GlobalGet(7), If { result: None, then_arm: [GlobalGet(8), LocalSet(5)], else_arm: [] }, \
+    Loop { result: None, body: [\
+    Block { result: None, body: [\
+    GlobalGet(7), If { result: None, then_arm: [LocalGet(0), Const(I32(0)), Num(I32Ne), BrIf(1)], else_arm: [] }, \
+    Call(0), GlobalGet(7), BrIf(3)] }] }, \
+    Call(0), Const(I32(1)), LocalSet(0), GlobalGet(7), BrIf(1)] }, \
+    Return]";
+
+#[test]
+fn the_first_call_is_noted_in_a_loop_with_another(rt: HostRuntime) -> Result<(), Fail> {
+    let alloc = rt.alloc();
+    let none = Slots { low: 0, count: 0 };
+    let both = Stmt::Loop(vec![in alloc; bare_call(alloc, 0), bare_call(alloc, 0)]?);
+    let mut func = bare_func(alloc, vec![in alloc; both]?);
+    let written = guard_slim(alloc, &mut func, &[0, 1], 7, none, restoring(alloc)?)?;
+    assert_eq!(rt; shown(alloc, &written)?.as_str(), CALLS_IN_ONE_LOOP);
+    let alone = Stmt::Loop(vec![in alloc; bare_call(alloc, 0)]?);
+    let mut func = bare_func(alloc, vec![in alloc; alone, bare_call(alloc, 0)]?);
+    let written = guard_slim(alloc, &mut func, &[0, 1], 7, none, restoring(alloc)?)?;
+    assert_eq!(rt; shown(alloc, &written)?.as_str(), FIRST_ALONE_IN_A_LOOP);
     Ok(())
 }
