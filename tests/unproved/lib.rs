@@ -22,6 +22,8 @@ mod fetching;
 #[cfg(test)]
 mod flattening;
 #[cfg(test)]
+mod frames;
+#[cfg(test)]
 mod guarding;
 #[cfg(test)]
 mod limits;
